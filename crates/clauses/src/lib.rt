@@ -1,0 +1,1 @@
+// The clause layer of document 01: so far its definitions and theorems (specs/ and proofs/); its functions follow.

@@ -1,0 +1,41 @@
+-- 01, "What comes back": the bytes that an answer writes.
+use mathlib.Core.Bool.{Bool, cond, _&&_}
+use mathlib.Core.List.{List, [], _∷_, _++_, map, flatMap}
+use mathlib.Core.Option.{Option, Option·getD}
+use Prim.Native.Nat.{ℕ}
+use lib.Dec.{ltb}
+use lib.ListN.{length, take, drop}
+use Rattle.tables.specs.Words.{below, firstBelow}
+use Rattle.tables.specs.Bytes.{wordBytes}
+use Rattle.tables.specs.Terms.{Term}
+use Rattle.tables.specs.LiteralTable.{Literal}
+use Rattle.tables.specs.Colours.{inUse}
+use Rattle.closure.specs.Graph.{Graph, joined}
+
+-- "the lowest number of a given term in its class; a term not in use gets 65535"
+unfoldable pub classNumber : List Term → List Literal → Graph → ℕ → ℕ
+unfolding joined
+classNumber ts ls G t =
+    let lowest = Option·getD (firstBelow (λ u. inUse ts ls u && joined G u t) (length ts)) 65535 in
+    cond (inUse ts ls t) lowest 65535
+
+-- "the partition buffer's first 2n bytes hold, for each of the n terms" that number
+unfoldable pub partitionBytes : List Term → List Literal → Graph → List ℕ
+unfolding classNumber flatMap
+partitionBytes ts ls G = flatMap (λ t. wordBytes (classNumber ts ls G t)) (below (length ts))
+
+-- "the added terms (16 bytes each ..)": a term record
+unfoldable pub termBytes : Term → List ℕ
+unfolding flatMap
+termBytes m =
+    wordBytes (m .symbol) ++ (length (m .arguments) ∷ 0 ∷ []) ++
+    flatMap wordBytes (take 4 (m .arguments ++ (0 ∷ 0 ∷ 0 ∷ 0 ∷ []))) ++
+    (0 ∷ 0 ∷ 0 ∷ 0 ∷ [])
+
+-- "bytes past those written .. keep their content"
+unfoldable pub writtenOver : List ℕ → List ℕ → List ℕ
+writtenOver bytes buffer = bytes ++ drop (length bytes) buffer
+
+-- row 7: "an output buffer is too short for this answer"
+unfoldable pub tooShort : List ℕ → List ℕ → Bool
+tooShort bytes buffer = ltb (length buffer) (length bytes)

@@ -1,0 +1,4 @@
+-- Document 01's "What comes back", as definitions over the bytes of the two tables and of the three lent buffers. The theorems are in proofs/.
+pub mod Answers
+pub mod Buffers
+pub mod Call

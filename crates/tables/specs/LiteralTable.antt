@@ -1,0 +1,60 @@
+-- 01: "Literal record, 8 bytes: 0 side (1 = A, 2 = B); 1 kind (1 equal, 2 different); 2-3 left; 4-5 right; 6-7 zero."
+use mathlib.Core.Bool.{Bool, true, false, cond, not, _&&_, _||_}
+use mathlib.Core.List.{List, map}
+use Prim.Native.Nat.{ℕ}
+use lib.Dec.{eqb, leb}
+use Rattle.tables.specs.Words.{below}
+use Rattle.tables.specs.Bytes.{byteAt, wordAt, countOf, recordAt}
+
+-- a literal is marked A or B
+pub data Side : Type 0 where
+  A B : Side
+
+abbrev pub sameSide : Side → Side → Bool
+sameSide A A = true
+sameSide A B = false
+sameSide B A = false
+sameSide B B = true
+
+pub data Kind : Type 0 where
+  equal different : Kind
+
+abbrev pub isEqual : Kind → Bool
+isEqual equal = true
+isEqual different = false
+
+pub record Literal : Type 0 where
+  pub side : Side
+  pub kind : Kind
+  pub left : ℕ
+  pub right : ℕ
+
+-- how many literal records the table has
+abbrev pub literalCount : List ℕ → ℕ
+literalCount bs = countOf 8 bs
+
+-- the bytes of literal record k
+abbrev pub literalRecord : List ℕ → ℕ → List ℕ
+literalRecord bs k = recordAt 8 bs k
+
+-- "not 1 or 2"
+unfoldable pub notOneOrTwo : ℕ → Bool
+notOneOrTwo b = not (eqb b 1 || eqb b 2)
+
+-- row 6: "side or kind not 1 or 2, a term number not in the table, bytes 6-7 not zero", in a table of n terms
+unfoldable pub breaksLiteral : ℕ → List ℕ → ℕ → Bool
+unfolding notOneOrTwo
+breaksLiteral n bs k =
+    let r = literalRecord bs k in
+    notOneOrTwo (byteAt r 0) || notOneOrTwo (byteAt r 1) || leb n (wordAt r 2) || leb n (wordAt r 4) ||
+    not (eqb (wordAt r 6) 0)
+
+-- the literal that a record describes
+unfoldable pub literalOf : List ℕ → Literal
+literalOf r =
+    record { side = cond (eqb (byteAt r 0) 1) A B; kind = cond (eqb (byteAt r 1) 1) equal different; left = wordAt r 2; right = wordAt r 4 }
+
+-- the table read, in the order of its records
+unfoldable pub literalsOf : List ℕ → List Literal
+unfolding literalOf
+literalsOf bs = map (λ k. literalOf (literalRecord bs k)) (below (literalCount bs))

@@ -1,0 +1,45 @@
+-- Terms as document 01 speaks of them once the table is read: a symbol over arguments, which are term numbers.
+use mathlib.Core.List.{List, [], _∷_, map, flatMap, List·Memᴰ}
+use Prim.Native.Nat.{ℕ, zero, suc, _<_}
+use lib.ListN.{length, getD}
+
+pub record Term : Type 0 where
+  pub symbol : ℕ
+  pub arguments : List ℕ
+
+-- what stands for a number that is not in the table; no definition below rests on it for tables that pass the checks
+abbrev pub noTerm : Term
+noTerm = record { symbol = 0; arguments = [] }
+
+-- the term of a number: given terms come first, added ones after them
+abbrev pub termAt : List Term → ℕ → Term
+termAt ts t = getD ts t noTerm
+
+-- "all the way down": what f makes of a term and of what was made of its arguments. Arguments are lower, so the descent from term t
+-- is at most t + 1 deep: the first number is the depth that is left.
+unfoldable pub downTo {ℓ} : {X : Type ℓ} → (ℕ → Term → List X → X) → X → List Term → ℕ → ℕ → X
+downTo f x ts zero t = x
+downTo f x ts (suc d) t = f t (termAt ts t) (map (downTo f x ts d) (termAt ts t .arguments))
+
+unfoldable pub down {ℓ} : {X : Type ℓ} → (ℕ → Term → List X → X) → X → List Term → ℕ → X
+unfolding downTo
+down f x ts t = downTo f x ts (suc t) t
+
+-- the term's own number and, repeatedly, those of its arguments
+unfoldable pub parts : List Term → ℕ → List ℕ
+unfolding down
+parts = down (λ t term below. t ∷ flatMap (λ ps. ps) below) []
+
+-- 01: "A term's symbols are its own symbol and those of its arguments, all the way down."
+unfoldable pub symbols : List Term → ℕ → List ℕ
+unfolding parts
+symbols ts t = map (λ u. termAt ts u .symbol) (parts ts t)
+
+-- the same, as what a reader believes: u is t itself, or a part of an argument of t
+pub data Part (ts : List Term) (u : ℕ) : ℕ → Type 0 where
+  itself : Part ts u u
+  deeper : {t a : ℕ} → List·Memᴰ a (termAt ts t .arguments) → Part ts u a → Part ts u t
+
+-- "Every argument is lower than the record's own number."
+abbrev pub LowerArguments : List Term → Type 0
+LowerArguments ts = (t : ℕ) → t < length ts → (a : ℕ) → List·Memᴰ a (termAt ts t .arguments) → a < t
