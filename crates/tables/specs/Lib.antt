@@ -8,3 +8,4 @@ pub mod Checks
 pub mod Terms
 pub mod Colours
 pub mod Interpretations
+pub mod Read

@@ -1,4 +1,6 @@
-// The two tables of document 01.
+// The two tables of document 01: any bytes in; the refusals 1 to 6 with their place, or the tables read.
+
+// What the checks of rows 1 to 6 say: sound, or the row that refuses, with its place.
 pub enum Check {
     Sound,
     Length(usize),
@@ -7,4 +9,20 @@ pub enum Check {
     Arity(usize),
     Repeated(usize),
     Literal(usize),
+}
+
+// The tables as they were read; where they are refused, only the check says something and all else is 0. Past the counts the arrays
+// hold 0. The arguments stand beside this struct, as an array of rows of four.
+pub struct Tables {
+    pub check: Check,
+    pub terms: usize,
+    pub literals: usize,
+    pub symbols: [u16; 256],
+    pub arities: [u8; 256],
+    pub used: [bool; 256],
+    pub colours: [u8; 256],
+    pub sides: [u8; 1024],
+    pub kinds: [u8; 1024],
+    pub lefts: [u16; 1024],
+    pub rights: [u16; 1024],
 }

@@ -1,0 +1,309 @@
+-- Laws of the words of specs/Words.antt: each test says what it tests. Every layer cites them.
+use mathlib.Core.Bool.{Bool, true, false, cond, not, _&&_, _||_}
+use mathlib.Core.List.{List, [], _∷_, _++_, map, flatMap, List·Memᴰ, List·Memᴰ·head, List·Memᴰ·tail, List·Memᴰ·not-nil, List·Memᴰ·cases-cons, List·Memᴰ·append-cases, List·Memᴰ·eq-of-singleton, Memᴰ·append-left, Memᴰ·append-right, Memᴰ·map, Memᴰ·of-map}
+use mathlib.Core.Logic.{_⊎_, inl, inr, ⊎-elim}
+use mathlib.Core.Option.{Option, some, none, Option·none-ne-some}
+use mathlib.Core.Path.{_≡_, refl, sym, ap, ap₂, subst, _∙_}
+use Prim.Native.Nat.{ℕ, zero, suc, _+_, _≤_, _<_}
+use native.Mathlib.Nat.{le-refl, lt-irrefl, not-suc-le-zero}
+use native.Mathlib.Numerals.{add-one}
+use native.Mathlib.Omega.{arith}
+use lib.Dec.{T, eqb, ltb, leb, eqb→eq, eqb-refl, ltb→lt, lt→ltb, T-not, not-T}
+use lib.ListN.{length, getD, length-append}
+use Rattle.tables.specs.Words.{below, any, every, keep, among, same, someBelow, orElse, firstBelow, First, firstOf, Pair, pair, samePair, pairsBelow}
+
+-- ---- tests
+
+pub and-left : (a b : Bool) → T (a && b) → T a
+and-left true b h = tt
+and-left false b h = h
+
+pub and-right : (a b : Bool) → T (a && b) → T b
+and-right true b h = h
+and-right false b h = absurd h
+
+pub and-both : (a b : Bool) → T a → T b → T (a && b)
+and-both true b h k = k
+and-both false b h k = h
+
+pub or-cases : (a b : Bool) → T (a || b) → T a ⊎ T b
+or-cases true b h = inl tt
+or-cases false b h = inr h
+
+pub or-left : (a b : Bool) → T a → T (a || b)
+or-left true b h = tt
+or-left false b h = absurd h
+
+pub or-right : (a b : Bool) → T b → T (a || b)
+or-right true b h = tt
+or-right false b h = h
+
+-- a test passes or fails
+pub decide : (b : Bool) → T b ⊎ T (not b)
+decide true = inl tt
+decide false = inr tt
+
+pub passed : (b : Bool) → T b → b ≡ true
+passed true h = refl
+passed false h = absurd h
+
+pub failed : (b : Bool) → T (not b) → b ≡ false
+failed true h = absurd h
+failed false h = refl
+
+pub passes : (b : Bool) → b ≡ true → T b
+passes b e = subst T (sym e) tt
+
+pub fails : (b : Bool) → b ≡ false → T (not b)
+fails b e = subst (λ (x : Bool). T (not x)) (sym e) tt
+
+-- two tests of which each passes where the other does are one
+pub same-test : (a b : Bool) → (T a → T b) → (T b → T a) → a ≡ b
+same-test true true f g = refl
+same-test true false f g = absurd (f tt)
+same-test false true f g = absurd (g tt)
+same-test false false f g = refl
+
+-- by cases on a test, with what it says
+pub by-test {ℓ} : {C : Type ℓ} → (b : Bool) → (b ≡ true → C) → (b ≡ false → C) → C
+by-test true f g = f refl
+by-test false f g = g refl
+
+-- ---- lists
+
+module _ {ℓ} {A : Type ℓ} where
+  pub any-some : (p : A → Bool) (xs : List A) → T (any p xs) → (x : A) × List·Memᴰ x xs × T (p x)
+  unfolding any
+  any-some p [] h = absurd h
+  any-some p (x ∷ xs) h = go (or-cases (p x) (any p xs) h) (λ k. any-some p xs k)
+    where
+      go : T (p x) ⊎ T (any p xs) → (T (any p xs) → (y : A) × List·Memᴰ y xs × T (p y)) → (y : A) × List·Memᴰ y (x ∷ xs) × T (p y)
+      go (inl k) f = (x, List·Memᴰ·head refl, k)
+      go (inr k) f = let r = f k in (r .0, List·Memᴰ·tail (r .1), r .2)
+
+  pub some-any : (p : A → Bool) {x : A} {xs : List A} → List·Memᴰ x xs → T (p x) → T (any p xs)
+  unfolding any
+  some-any p (List·Memᴰ·head {x = y} {xs = ys} e) h = or-left (p y) (any p ys) (subst (λ z. T (p z)) e h)
+  some-any p (List·Memᴰ·tail {x = y} {xs = ys} m) h = or-right (p y) (any p ys) (some-any p m h)
+
+  pub every-all : (p : A → Bool) {x : A} {xs : List A} → T (every p xs) → List·Memᴰ x xs → T (p x)
+  unfolding every
+  every-all p h (List·Memᴰ·head {x = y} {xs = ys} e) = subst (λ z. T (p z)) (sym e) (and-left (p y) (every p ys) h)
+  every-all p h (List·Memᴰ·tail {x = y} {xs = ys} m) = every-all p (and-right (p y) (every p ys) h) m
+
+  pub all-every : (p : A → Bool) (xs : List A) → ((x : A) → List·Memᴰ x xs → T (p x)) → T (every p xs)
+  unfolding every
+  all-every p [] f = tt
+  all-every p (x ∷ xs) f = and-both (p x) (every p xs) (f x (List·Memᴰ·head refl)) (all-every p xs (λ y m. f y (List·Memᴰ·tail m)))
+
+  pub keep-mem : (p : A → Bool) {x : A} (xs : List A) → List·Memᴰ x (keep p xs) → List·Memᴰ x xs × T (p x)
+  unfolding keep
+  keep-mem p [] m = absurd (List·Memᴰ·not-nil m)
+  keep-mem p {x} (y ∷ ys) m = go (p y) refl m (λ m′. keep-mem p ys m′)
+    where
+      go : (b : Bool) → p y ≡ b → List·Memᴰ x (cond b (y ∷ keep p ys) (keep p ys)) → (List·Memᴰ x (keep p ys) → List·Memᴰ x ys × T (p x)) → List·Memᴰ x (y ∷ ys) × T (p x)
+      go true e m′ f = ⊎-elim (λ e′. (List·Memᴰ·head e′, subst (λ z. T (p z)) (sym e′) (passes (p y) e))) (λ k. (List·Memᴰ·tail (f k .0), f k .1)) (List·Memᴰ·cases-cons m′)
+      go false e m′ f = (List·Memᴰ·tail (f m′ .0), f m′ .1)
+
+  pub mem-keep : (p : A → Bool) {x : A} {xs : List A} → List·Memᴰ x xs → T (p x) → List·Memᴰ x (keep p xs)
+  unfolding keep
+  mem-keep p {x} (List·Memᴰ·head {x = y} {xs = ys} e) h = go (p y) (subst (λ z. T (p z)) e h)
+    where
+      go : (b : Bool) → T b → List·Memᴰ x (cond b (y ∷ keep p ys) (keep p ys))
+      go true k = List·Memᴰ·head e
+      go false k = absurd k
+  mem-keep p {x} (List·Memᴰ·tail {x = y} {xs = ys} m) h = go (p y) (mem-keep p m h)
+    where
+      go : (b : Bool) → List·Memᴰ x (keep p ys) → List·Memᴰ x (cond b (y ∷ keep p ys) (keep p ys))
+      go true k = List·Memᴰ·tail k
+      go false k = k
+
+  pub flatMap-mem {κ} : {B : Type κ} (f : A → List B) {y : B} (xs : List A) → List·Memᴰ y (flatMap f xs) → (x : A) × List·Memᴰ x xs × List·Memᴰ y (f x)
+  unfolding flatMap
+  flatMap-mem f [] m = absurd (List·Memᴰ·not-nil m)
+  flatMap-mem {B = B} f {y} (x ∷ xs) m = go (List·Memᴰ·append-cases (f x) m) (λ k. flatMap-mem f xs k)
+    where
+      go : List·Memᴰ y (f x) ⊎ List·Memᴰ y (flatMap f xs) → (List·Memᴰ y (flatMap f xs) → (z : A) × List·Memᴰ z xs × List·Memᴰ y (f z)) → (z : A) × List·Memᴰ z (x ∷ xs) × List·Memᴰ y (f z)
+      go (inl k) g = (x, List·Memᴰ·head refl, k)
+      go (inr k) g = let r = g k in (r .0, List·Memᴰ·tail (r .1), r .2)
+
+  pub mem-flatMap {κ} : {B : Type κ} (f : A → List B) {x : A} {y : B} {xs : List A} → List·Memᴰ x xs → List·Memᴰ y (f x) → List·Memᴰ y (flatMap f xs)
+  unfolding flatMap
+  mem-flatMap f {y = y} (List·Memᴰ·head {x = z} {xs = zs} e) m = Memᴰ·append-left (flatMap f zs) (subst (λ w. List·Memᴰ y (f w)) e m)
+  mem-flatMap f (List·Memᴰ·tail {x = z} {xs = zs} k) m = Memᴰ·append-right (f z) (mem-flatMap f k m)
+
+  pub getD-mem : (xs : List A) (i : ℕ) (d : A) → i < length xs → List·Memᴰ (getD xs i d) xs
+  getD-mem [] i d h = absurd (not-suc-le-zero h)
+  getD-mem (x ∷ xs) zero d h = List·Memᴰ·head refl
+  getD-mem (x ∷ xs) (suc i) d h = List·Memᴰ·tail (getD-mem xs i d (omega arith))
+
+  pub mem-getD : (d : A) {x : A} {xs : List A} → List·Memᴰ x xs → (i : ℕ) × (i < length xs) × (getD xs i d ≡ x)
+  mem-getD d (List·Memᴰ·head e) = (zero, omega arith, sym e)
+  mem-getD d (List·Memᴰ·tail m) = let r = mem-getD d m in (suc (r .0), omega (arith, r .1), r .2)
+
+  pub firstOf-some : (p : A → Bool) (xs : List A) (x : A) → firstOf p xs ≡ some x → List·Memᴰ x xs × T (p x)
+  unfolding firstOf
+  firstOf-some p [] x e = absurd (Option·none-ne-some x e)
+  firstOf-some p (y ∷ ys) x e = go (p y) refl e (λ k. firstOf-some p ys x k)
+    where
+      go : (b : Bool) → p y ≡ b → cond b (some y) (firstOf p ys) ≡ some x → (firstOf p ys ≡ some x → List·Memᴰ x ys × T (p x)) → List·Memᴰ x (y ∷ ys) × T (p x)
+      go true q k f = let w : x ≡ y = cc in (List·Memᴰ·head w, subst (λ z. T (p z)) (sym w) (passes (p y) q))
+      go false q k f = (List·Memᴰ·tail (f k .0), f k .1)
+
+  pub firstOf-none : (p : A → Bool) {x : A} {xs : List A} → firstOf p xs ≡ none → List·Memᴰ x xs → T (p x) → ⊥
+  unfolding firstOf
+  firstOf-none p {x} e (List·Memᴰ·head {x = y} {xs = ys} q) h = go (p y) (subst (λ z. T (p z)) q h) e
+    where
+      go : (b : Bool) → T b → cond b (some y) (firstOf p ys) ≡ none → ⊥
+      go true k w = let z : _≡_ {A = ℕ} 0 1 = cc in omega arith
+      go false k w = k
+  firstOf-none p {x} e (List·Memᴰ·tail {x = y} {xs = ys} m) h = go (p y) e (λ k. firstOf-none p k m h)
+    where
+      go : (b : Bool) → cond b (some y) (firstOf p ys) ≡ none → (firstOf p ys ≡ none → ⊥) → ⊥
+      go true w f = let z : _≡_ {A = ℕ} 0 1 = cc in omega arith
+      go false w f = f w
+
+-- ---- numbers in lists
+
+pub among-mem : (x : ℕ) (xs : List ℕ) → T (among x xs) → List·Memᴰ x xs
+unfolding among
+among-mem x xs h = let r = any-some (eqb x) xs h in subst (λ z. List·Memᴰ z xs) (sym (eqb→eq x (r .0) (r .2))) (r .1)
+
+pub mem-among : {x : ℕ} {xs : List ℕ} → List·Memᴰ x xs → T (among x xs)
+unfolding among
+mem-among {x} m = some-any (eqb x) m (eqb-refl x)
+
+pub same-eq : (xs ys : List ℕ) → T (same xs ys) → xs ≡ ys
+unfolding same
+same-eq [] [] h = refl
+same-eq [] (y ∷ ys) h = absurd h
+same-eq (x ∷ xs) [] h = absurd h
+same-eq (x ∷ xs) (y ∷ ys) h = ap₂ (λ (a : ℕ) (as′ : List ℕ). a ∷ as′) (eqb→eq x y (and-left (eqb x y) (same xs ys) h)) (same-eq xs ys (and-right (eqb x y) (same xs ys) h))
+
+pub same-self : (xs : List ℕ) → T (same xs xs)
+unfolding same
+same-self [] = tt
+same-self (x ∷ xs) = and-both (eqb x x) (same xs xs) (eqb-refl x) (same-self xs)
+
+pub length-below : (n : ℕ) → length (below n) ≡ n
+unfolding below
+length-below zero = refl
+length-below (suc n) = length-append (below n) (n ∷ []) ∙ ap (λ (k : ℕ). k + 1) (length-below n) ∙ add-one n
+
+pub below-mem : (n : ℕ) {k : ℕ} → List·Memᴰ k (below n) → k < n
+unfolding below
+below-mem zero m = absurd (List·Memᴰ·not-nil m)
+below-mem (suc n) {k} m = go (List·Memᴰ·append-cases (below n) m) (λ h. below-mem n h)
+  where
+    go : List·Memᴰ k (below n) ⊎ List·Memᴰ k (n ∷ []) → (List·Memᴰ k (below n) → k < n) → k < suc n
+    go (inl h) f = omega (arith, f h)
+    go (inr h) f = omega (arith, List·Memᴰ·eq-of-singleton h)
+
+-- k is below n, or is n, where it is below the next number
+pub below-or-is : (k n : ℕ) → k < suc n → (k < n) ⊎ (k ≡ n)
+below-or-is k n h = by-test (ltb k n) (λ e. inl (ltb→lt k n (passes (ltb k n) e))) (λ e. inr (omega (arith, not-below e)))
+  where
+    not-below : ltb k n ≡ false → n ≤ k
+    not-below e = lib.Dec.nltb→le k n (fails (ltb k n) e)
+
+pub mem-below : (n k : ℕ) → k < n → List·Memᴰ k (below n)
+unfolding below
+mem-below zero k h = absurd (not-suc-le-zero h)
+mem-below (suc n) k h = go (below-or-is k n h) (λ l. mem-below n k l)
+  where
+    go : (k < n) ⊎ (k ≡ n) → (k < n → List·Memᴰ k (below n)) → List·Memᴰ k (below n ++ (n ∷ []))
+    go (inl l) f = Memᴰ·append-left (n ∷ []) (f l)
+    go (inr e) f = Memᴰ·append-right (below n) (List·Memᴰ·head e)
+
+-- ---- some number, and the first number, below n
+
+pub someBelow-some : (p : ℕ → Bool) (n : ℕ) → T (someBelow p n) → (k : ℕ) × (k < n) × T (p k)
+unfolding someBelow
+someBelow-some p zero h = absurd h
+someBelow-some p (suc n) h = go (or-cases (someBelow p n) (p n) h) (λ l. someBelow-some p n l)
+  where
+    go : T (someBelow p n) ⊎ T (p n) → (T (someBelow p n) → (k : ℕ) × (k < n) × T (p k)) → (k : ℕ) × (k < suc n) × T (p k)
+    go (inl l) f = let r = f l in (r .0, omega (arith, r .1), r .2)
+    go (inr l) f = (n, le-refl (suc n), l)
+
+pub some-someBelow : (p : ℕ → Bool) (n k : ℕ) → k < n → T (p k) → T (someBelow p n)
+unfolding someBelow
+some-someBelow p zero k h l = absurd (not-suc-le-zero h)
+some-someBelow p (suc n) k h l = go (below-or-is k n h) (λ w. some-someBelow p n k w l)
+  where
+    go : (k < n) ⊎ (k ≡ n) → (k < n → T (someBelow p n)) → T (someBelow p n || p n)
+    go (inl w) f = or-left (someBelow p n) (p n) (f w)
+    go (inr e) f = or-right (someBelow p n) (p n) (subst (λ z. T (p z)) e l)
+
+pub firstBelow-none : (p : ℕ → Bool) (n : ℕ) → firstBelow p n ≡ none → (k : ℕ) → k < n → T (p k) → ⊥
+unfolding firstBelow orElse
+firstBelow-none p zero e k h l = absurd (not-suc-le-zero h)
+firstBelow-none p (suc n) e k h l = go (firstBelow p n) refl e (λ q w. firstBelow-none p n q k w l)
+  where
+    last : (b : Bool) → p n ≡ b → cond b (some n) none ≡ none → T (p n) → ⊥
+    last true q w x = let z : _≡_ {A = ℕ} 0 1 = cc in omega arith
+    last false q w x = subst T q x
+
+    go : (o : Option ℕ) → firstBelow p n ≡ o → orElse o (cond (p n) (some n) none) ≡ none → (firstBelow p n ≡ none → k < n → ⊥) → ⊥
+    go (some j) q w f = let z : _≡_ {A = ℕ} 0 1 = cc in omega arith
+    go none q w f = ⊎-elim (λ x. f q x) (λ x. last (p n) refl w (subst (λ z. T (p z)) x l)) (below-or-is k n h)
+
+pub firstBelow-some : (p : ℕ → Bool) (n k : ℕ) → firstBelow p n ≡ some k → First p n k
+unfolding firstBelow orElse
+firstBelow-some p zero k e = absurd (Option·none-ne-some k e)
+firstBelow-some p (suc n) k e = go (firstBelow p n) refl e (λ q. firstBelow-some p n k q)
+  where
+    last : (b : Bool) → p n ≡ b → cond b (some n) none ≡ some k → firstBelow p n ≡ none → First p (suc n) k
+    last true q w x = let y : k ≡ n = cc in record { within = omega arith; passes = subst (λ z. T (p z)) (sym y) (passes (p n) q); none-before = λ j h. firstBelow-none p n x j (omega arith) }
+    last false q w x = absurd (Option·none-ne-some k w)
+
+    go : (o : Option ℕ) → firstBelow p n ≡ o → orElse o (cond (p n) (some n) none) ≡ some k → (firstBelow p n ≡ some k → First p n k) → First p (suc n) k
+    go (some j) q w f = let r = f (q ∙ w) in record { within = omega (arith, r .within); passes = r .passes; none-before = r .none-before }
+    go none q w f = last (p n) refl w q
+
+-- two first numbers are one
+pub first-one : (p : ℕ → Bool) (n k j : ℕ) → First p n k → First p n j → k ≡ j
+first-one p n k j x y = order (below-or-is k j) (below-or-is j k)
+  where
+    order : (k < suc j → (k < j) ⊎ (k ≡ j)) → (j < suc k → (j < k) ⊎ (j ≡ k)) → k ≡ j
+    order f g = by-test (ltb k j)
+        (λ e. absurd (y .none-before k (ltb→lt k j (passes (ltb k j) e)) (x .passes)))
+        (λ e. by-test (ltb j k) (λ d. absurd (x .none-before j (ltb→lt j k (passes (ltb j k) d)) (y .passes))) (λ d. omega (arith, lib.Dec.nltb→le k j (fails (ltb k j) e), lib.Dec.nltb→le j k (fails (ltb j k) d))))
+
+-- the first such number is found
+pub first-firstBelow : (p : ℕ → Bool) (n k : ℕ) → First p n k → firstBelow p n ≡ some k
+first-firstBelow p n k x = go (firstBelow p n) refl
+  where
+    go : (o : Option ℕ) → firstBelow p n ≡ o → firstBelow p n ≡ some k
+    go (some j) e = e ∙ ap some (first-one p n j k (firstBelow-some p n j e) x)
+    go none e = absurd (firstBelow-none p n e k (x .within) (x .passes))
+
+-- nothing is found where no number passes
+pub none-firstBelow : (p : ℕ → Bool) (n : ℕ) → ((k : ℕ) → k < n → T (p k) → ⊥) → firstBelow p n ≡ none
+none-firstBelow p n f = go (firstBelow p n) refl
+  where
+    go : (o : Option ℕ) → firstBelow p n ≡ o → firstBelow p n ≡ none
+    go (some j) e = let r = firstBelow-some p n j e in absurd (f j (r .within) (r .passes))
+    go none e = e
+
+-- ---- pairs
+
+pub samePair-eq : (p q : Pair) → T (samePair p q) → p ≡ q
+samePair-eq p q h = λ i. record { left = eqb→eq (p .left) (q .left) (and-left (eqb (p .left) (q .left)) (eqb (p .right) (q .right)) h) i; right = eqb→eq (p .right) (q .right) (and-right (eqb (p .left) (q .left)) (eqb (p .right) (q .right)) h) i }
+
+pub samePair-self : (p : Pair) → T (samePair p p)
+samePair-self p = and-both (eqb (p .left) (p .left)) (eqb (p .right) (p .right)) (eqb-refl (p .left)) (eqb-refl (p .right))
+
+pub pairsBelow-mem : (n : ℕ) (p : Pair) → List·Memᴰ p (pairsBelow n) → (p .left < p .right) × (p .right < n)
+unfolding pairsBelow
+pairsBelow-mem n p m =
+    let r = flatMap-mem (λ s. map (pair s) (keep (ltb s) (below n))) (below n) m in
+    let q = Memᴰ·of-map (pair (r .0)) (keep (ltb (r .0)) (below n)) (r .2) in
+    let k = keep-mem (ltb (r .0)) (below n) (q .1) in
+    let e : pair (r .0) (q .0) ≡ p = q .2 in
+    subst (λ (w : Pair). (w .left < w .right) × (w .right < n)) e (ltb→lt (r .0) (q .0) (k .1), below-mem n (k .0))
+
+pub mem-pairsBelow : (n : ℕ) (p : Pair) → p .left < p .right → p .right < n → List·Memᴰ p (pairsBelow n)
+unfolding pairsBelow
+mem-pairsBelow n p h k =
+    mem-flatMap (λ s. map (pair s) (keep (ltb s) (below n))) (mem-below n (p .left) (omega arith)) (Memᴰ·map (pair (p .left)) (mem-keep (ltb (p .left)) (mem-below n (p .right) k) (lt→ltb (p .left) (p .right) h)))
