@@ -72,9 +72,12 @@ module _ (ts : List Term) (ls : List Literal) (low : LowerArguments ts) (within 
   occurs-part X f h =
       let r = any-some (λ (l : Literal). sameSide (l .side) X && among f (symbols ts (l .left) ++ symbols ts (l .right))) ls h in
       let l = r .0 in
-      let k = and-right (sameSide (l .side) X) (among f (symbols ts (l .left) ++ symbols ts (l .right))) (r .2) in
-      (l, r .1, sameSide-eq (l .side) X (and-left (sameSide (l .side) X) (among f (symbols ts (l .left) ++ symbols ts (l .right))) (r .2)),
-       ⊎-elim (λ m. let q = symbol-of-part ts (l .left) m in (q .0, inl (q .1), q .2)) (λ m. let q = symbol-of-part ts (l .right) m in (q .0, inr (q .1), q .2)) (List·Memᴰ·append-cases (symbols ts (l .left)) (among-mem f (symbols ts (l .left) ++ symbols ts (l .right)) k)))
+      let k = and-right (sameSide (l .side) X) (among f (symbols ts (l .left) ++ symbols ts (l .right))) (r .2) in (
+        l,
+        r .1,
+        sameSide-eq (l .side) X (and-left (sameSide (l .side) X) (among f (symbols ts (l .left) ++ symbols ts (l .right))) (r .2)),
+        ⊎-elim (λ m. let q = symbol-of-part ts (l .left) m in (q .0, inl (q .1), q .2)) (λ m. let q = symbol-of-part ts (l .right) m in (q .0, inr (q .1), q .2)) (List·Memᴰ·append-cases (symbols ts (l .left)) (among-mem f (symbols ts (l .left) ++ symbols ts (l .right)) k)),
+      )
 
   pub part-occurs : (X : Side) (l : Literal) → List·Memᴰ l ls → l .side ≡ X → (u : ℕ) → PartOf ts u l → T (occursIn ts ls X (termAt ts u .symbol))
   unfolding occursIn

@@ -1,0 +1,41 @@
+-- What holds of every edge of a graph, over the edges older than it: the form of every invariant of a run.
+use mathlib.Core.Bool.{not}
+use mathlib.Core.List.{List, [], _∷_, List·Memᴰ}
+use mathlib.Core.Path.{_≡_}
+use Prim.Native.Nat.{ℕ, _<_}
+use lib.Dec.{T}
+use lib.ListN.{length}
+use Rattle.tables.specs.Terms.{Term, termAt, LowerArguments}
+use Rattle.tables.specs.LiteralTable.{Side, Literal, equal}
+use Rattle.tables.specs.Colours.{edgeColourable}
+use Rattle.closure.specs.Graph.{Edge, EdgeKind, basic, derived, Graph, joined}
+use Rattle.closure.specs.Steps.{congruent, HasSides}
+
+abbrev pub Each : (Graph → Edge → Type 0) → Graph → Type 0
+Each P [] = Unit {0}
+Each P (e ∷ G) = P G e × Each P G
+
+-- the edge joins two terms that the older ones do not join
+abbrev pub Unjoined : Graph → Edge → Type 0
+Unjoined G e = T (not (joined G (e .left) (e .right)))
+
+-- a graph without a cycle
+abbrev pub Forest : Graph → Type 0
+Forest = Each Unjoined
+
+-- what stands behind an edge: an equality record of its colour with its sides, or the same symbol over joined arguments
+abbrev pub Behind : List Literal → List Term → Graph → Edge → EdgeKind → Type 0
+Behind ls table G e basic = (l : Literal) × List·Memᴰ l ls × (l .kind ≡ equal) × (l .side ≡ e .colour) × HasSides l (e .left) (e .right)
+Behind ls table G e derived = T (congruent table G (e .left) (e .right))
+
+-- an edge as the steps make it
+pub record SoundEdge (ts : List Term) (ls : List Literal) (table : List Term) (G : Graph) (e : Edge) : Type 0 where
+  pub unjoined : Unjoined G e
+  pub behind : Behind ls table G e (e .kind)
+  pub coloured : T (edgeColourable ts ls (e .colour) table (e .left) (e .right))
+  pub left-within : e .left < length table
+  pub right-within : e .right < length table
+
+-- a graph as the steps make it
+abbrev pub SoundGraph : List Term → List Literal → List Term → Graph → Type 0
+SoundGraph ts ls table G = Each (SoundEdge ts ls table) G
