@@ -4,4 +4,5 @@ pub mod Factors
 pub mod Premises
 pub mod Reading
 pub mod Records
+pub mod ReadBack
 pub mod Truth

@@ -2,3 +2,7 @@
 pub mod Joined
 pub mod Walks
 pub mod Invariant
+pub mod OnePath
+pub mod Count
+pub mod Model
+pub mod Classes

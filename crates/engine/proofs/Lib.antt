@@ -1,2 +1,3 @@
 -- Theorems about the definitions of specs/.
 pub mod Bench
+pub mod AddedTerms

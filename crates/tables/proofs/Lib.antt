@@ -1,4 +1,5 @@
 -- Theorems about the definitions of specs/.
 pub mod Words
+pub mod Bytes
 pub mod Terms
 pub mod Colours

@@ -1,0 +1,3 @@
+-- Theorems about the definitions of specs/.
+pub mod Order
+pub mod Records
