@@ -1,3 +1,10 @@
 -- Theorems about the definitions of specs/.
+pub mod Factors
+pub mod Members
+pub mod Truths
+pub mod Shared
+pub mod Stretches
+pub mod Interpolation
+pub mod Meaning
 pub mod Order
 pub mod Records

@@ -6,3 +6,4 @@ pub mod OnePath
 pub mod Count
 pub mod Model
 pub mod Classes
+pub mod Parents
