@@ -5,7 +5,8 @@ use mathlib.Core.Logic.{⊎-elim}
 use mathlib.Core.Path.{_≡_, refl, sym, ap, ap₂, subst, _∙_}
 use Prim.Native.Nat.{ℕ}
 use lib.Dec.{T}
-use Rattle.tables.specs.LiteralTable.{Side, sameSide}
+use Rattle.tables.specs.LiteralTable.{sameSide}
+use Rattle.tables.specs.declared.Side.{Side}
 use Rattle.tables.proofs.Words.{passes, passed, flatMap-mem, mem-flatMap}
 use Rattle.tables.proofs.Colours.{sameSide-eq, sameSide-self}
 use Rattle.closure.specs.Graph.{Graph, Hop, Path}

@@ -9,7 +9,9 @@ use lib.Dec.{T}
 use lib.ListN.{length}
 use Rattle.tables.specs.Words.{Pair}
 use Rattle.tables.specs.Terms.{Term, LowerArguments, itself}
-use Rattle.tables.specs.LiteralTable.{Side, A, B, Kind, equal, different, Literal}
+use Rattle.tables.specs.LiteralTable.{Kind, equal, different, Literal}
+use Rattle.tables.specs.declared.Side.{Side}
+use Rattle.tables.specs.declared.Side.the-variants.{A, B}
 use Rattle.tables.specs.Colours.{colourable}
 use Rattle.tables.specs.Interpretations.{Interpretation, value, HoldsAs, Holds, Satisfies}
 use Rattle.tables.proofs.Words.{flatMap-mem, mem-flatMap}

@@ -6,7 +6,9 @@ use Prim.Native.Nat.{ℕ, zero, suc}
 use lib.Dec.{T}
 use Rattle.tables.specs.Words.{Pair}
 use Rattle.tables.specs.Terms.{Term, LowerArguments}
-use Rattle.tables.specs.LiteralTable.{Side, A, B, Literal}
+use Rattle.tables.specs.LiteralTable.{Literal}
+use Rattle.tables.specs.declared.Side.{Side}
+use Rattle.tables.specs.declared.Side.the-variants.{A, B}
 use Rattle.tables.specs.Colours.{colourable}
 use Rattle.tables.proofs.Colours.{colourable-symbol, symbols-colourable, colourable-argument}
 use Rattle.closure.specs.Graph.{Graph, Hop, Path, path, parentPaths}

@@ -9,7 +9,9 @@ use lib.Dec.{T, ltb}
 use lib.ListN.{length}
 use Rattle.tables.specs.Words.{Pair, pair}
 use Rattle.tables.specs.Terms.{Term, termAt, LowerArguments}
-use Rattle.tables.specs.LiteralTable.{Side, A, B, Literal, equal}
+use Rattle.tables.specs.LiteralTable.{Literal, equal}
+use Rattle.tables.specs.declared.Side.{Side}
+use Rattle.tables.specs.declared.Side.the-variants.{A, B}
 use Rattle.tables.specs.Interpretations.{Interpretation, value}
 use Rattle.tables.proofs.Terms.{value-law}
 use Rattle.closure.specs.Graph.{Graph, Hop, Path, joined, path, parentPaths}

@@ -2,7 +2,8 @@
 use mathlib.Core.Bool.{cond}
 use mathlib.Core.List.{List, [], _∷_}
 use Prim.Native.Nat.{ℕ}
-use Rattle.tables.specs.LiteralTable.{Side, sameSide}
+use Rattle.tables.specs.LiteralTable.{sameSide}
+use Rattle.tables.specs.declared.Side.{Side}
 use Rattle.closure.specs.Graph.{Hop, Path}
 
 -- a stretch of one colour: its ends, and its hops

@@ -5,7 +5,8 @@ use mathlib.Core.Path.{_≡_}
 use Prim.Native.Nat.{ℕ, zero, suc}
 use Rattle.tables.specs.Words.{Pair}
 use Rattle.tables.specs.Terms.{Term}
-use Rattle.tables.specs.LiteralTable.{Side, A, B}
+use Rattle.tables.specs.declared.Side.{Side}
+use Rattle.tables.specs.declared.Side.the-variants.{A, B}
 use Rattle.closure.specs.Graph.{Hop, Path, path, parentPaths}
 use Rattle.clauses.specs.Clauses.{between, Clause, equals}
 use Rattle.clauses.specs.Factors.{Factor, factors}

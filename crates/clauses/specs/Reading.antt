@@ -6,7 +6,9 @@ use Prim.Native.Nat.{ℕ}
 use lib.ListN.{length, getD}
 use Rattle.tables.specs.Words.{Pair, any, firstBelow}
 use Rattle.tables.specs.Terms.{Term}
-use Rattle.tables.specs.LiteralTable.{Side, A, B, Literal, equal, isEqual}
+use Rattle.tables.specs.LiteralTable.{Literal, equal, isEqual}
+use Rattle.tables.specs.declared.Side.{Side}
+use Rattle.tables.specs.declared.Side.the-variants.{A, B}
 use Rattle.tables.specs.Colours.{colourable}
 use Rattle.closure.specs.Graph.{Graph, Hop, Path, joined, path}
 use Rattle.clauses.specs.Clauses.{between, Clause, Conclusion, equals, differs, falsum}

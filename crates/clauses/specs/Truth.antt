@@ -6,7 +6,9 @@ use Prim.Native.Nat.{ℕ}
 use lib.Dec.{T}
 use Rattle.tables.specs.Words.{Pair}
 use Rattle.tables.specs.Terms.{Term, symbols}
-use Rattle.tables.specs.LiteralTable.{Side, A, B, Literal}
+use Rattle.tables.specs.LiteralTable.{Literal}
+use Rattle.tables.specs.declared.Side.{Side}
+use Rattle.tables.specs.declared.Side.the-variants.{A, B}
 use Rattle.tables.specs.Colours.{occursIn}
 use Rattle.tables.specs.Interpretations.{Interpretation, value}
 use Rattle.clauses.specs.Clauses.{Clause, Conclusion, equals, differs, falsum}

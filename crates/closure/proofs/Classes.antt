@@ -9,7 +9,9 @@ use native.Mathlib.Omega.{arith}
 use lib.Dec.{T, ltb, ltb→lt, lt→ltb}
 use lib.ListN.{length, length-append}
 use Rattle.tables.specs.Terms.{Term, termAt, LowerArguments}
-use Rattle.tables.specs.LiteralTable.{Side, A, B, Kind, equal, different, Literal}
+use Rattle.tables.specs.LiteralTable.{Kind, equal, different, Literal}
+use Rattle.tables.specs.declared.Side.{Side}
+use Rattle.tables.specs.declared.Side.the-variants.{A, B}
 use Rattle.tables.specs.Colours.{inUse}
 use Rattle.tables.specs.Interpretations.{Interpretation, Finite, value, HoldsAs, Holds, Satisfies, SatisfiesEqualities}
 use Rattle.tables.proofs.Words.{passes, passed}

@@ -6,7 +6,8 @@ use Prim.Native.Nat.{ℕ, _<_}
 use lib.Dec.{T}
 use lib.ListN.{length}
 use Rattle.tables.specs.Terms.{Term, termAt, LowerArguments}
-use Rattle.tables.specs.LiteralTable.{Side, Literal, equal}
+use Rattle.tables.specs.LiteralTable.{Literal, equal}
+use Rattle.tables.specs.declared.Side.{Side}
 use Rattle.tables.specs.Colours.{edgeColourable}
 use Rattle.closure.specs.Graph.{Edge, EdgeKind, basic, derived, Graph, joined}
 use Rattle.closure.specs.Steps.{congruent, HasSides}

@@ -12,7 +12,8 @@ use lib.Dec.{T, eqb, eqb-refl}
 use lib.ListN.{length}
 use Rattle.tables.specs.Words.{below, same, firstBelow}
 use Rattle.tables.specs.Terms.{Term, termAt, LowerArguments}
-use Rattle.tables.specs.LiteralTable.{Side, Kind, equal, different, Literal}
+use Rattle.tables.specs.LiteralTable.{Kind, equal, different, Literal}
+use Rattle.tables.specs.declared.Side.{Side}
 use Rattle.tables.specs.Interpretations.{Interpretation, Finite, value, HoldsAs, Holds, Satisfies, SatisfiesEqualities}
 use Rattle.tables.proofs.Words.{and-left, and-right, and-both, same-eq, same-self, mem-below, firstBelow-some, firstBelow-none}
 use Rattle.tables.proofs.Terms.{map-agree, lower-append, value-law, value-append}

@@ -4,18 +4,12 @@ use mathlib.Core.List.{List, [], _∷_, _++_, map, zipWith}
 use Prim.Native.Nat.{ℕ}
 use lib.Dec.{eqb}
 use Rattle.tables.specs.Terms.{Term, termAt}
-use Rattle.tables.specs.LiteralTable.{Side}
-
+use Rattle.tables.specs.declared.Side.{Side}
 -- an edge comes from a basic step or from a derived one
-pub data EdgeKind : Type 0 where
-  basic derived : EdgeKind
-
+pub use Rattle.closure.specs.declared.EdgeKind.{EdgeKind}
+pub use Rattle.closure.specs.declared.EdgeKind.the-variants.{Basic as basic, Derived as derived}
 -- "A graph edge is one record holding ends, colour and kind."
-pub record Edge : Type 0 where
-  pub left : ℕ
-  pub right : ℕ
-  pub colour : Side
-  pub kind : EdgeKind
+pub use Rattle.closure.specs.declared.Edge.{Edge}
 
 -- "The graph starts with the terms in use and no edge." It is kept as its edges, the newest first. Each edge joins two terms that the older
 -- ones do not join, so a path never changes once it is there.

@@ -9,7 +9,9 @@ use lib.Dec.{T, eqb, ltb, leb}
 use lib.ListN.{length}
 use Rattle.tables.specs.Words.{same, firstBelow}
 use Rattle.tables.specs.Terms.{Term, termAt}
-use Rattle.tables.specs.LiteralTable.{Side, A, B, Literal, equal}
+use Rattle.tables.specs.LiteralTable.{Literal, equal}
+use Rattle.tables.specs.declared.Side.{Side}
+use Rattle.tables.specs.declared.Side.the-variants.{A, B}
 use Rattle.tables.specs.Colours.{inUse, colourable, shared, edgeColourable}
 use Rattle.closure.specs.Graph.{Edge, EdgeKind, basic, derived, Graph, Path, joined, path, vertices, joinedPairwise, pathsBetween}
 

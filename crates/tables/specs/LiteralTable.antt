@@ -5,10 +5,9 @@ use Prim.Native.Nat.{ℕ}
 use lib.Dec.{eqb, leb}
 use Rattle.tables.specs.Words.{below}
 use Rattle.tables.specs.Bytes.{byteAt, wordAt, countOf, recordAt}
-
 -- a literal is marked A or B
-pub data Side : Type 0 where
-  A B : Side
+pub use Rattle.tables.specs.declared.Side.{Side}
+pub use Rattle.tables.specs.declared.Side.the-variants.{A, B}
 
 abbrev pub sameSide : Side → Side → Bool
 sameSide A A = true

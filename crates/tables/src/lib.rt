@@ -1,5 +1,11 @@
 // The two tables of document 01: any bytes in; the refusals 1 to 6 with their place, or the tables read.
 
+// A literal is marked A or B, and so is an edge of the graph.
+pub enum Side {
+    A,
+    B,
+}
+
 // What the checks of rows 1 to 6 say: sound, or the row that refuses, with its place.
 pub enum Check {
     Sound,
