@@ -1,2 +1,5 @@
 -- Theorems about the definitions of specs/.
 pub mod Words
+pub mod Marks
+pub mod Terms
+pub mod Colours

@@ -26,3 +26,5 @@ pub struct Tables {
     pub lefts: [u16; 1024],
     pub rights: [u16; 1024],
 }
+
+mod colouring;
