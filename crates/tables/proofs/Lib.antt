@@ -3,3 +3,4 @@ pub mod Words
 pub mod Marks
 pub mod Terms
 pub mod Colours
+pub mod Records

@@ -1,18 +1,22 @@
 -- Laws of marking: what the turns of `mark` keep, and what is marked in the end.
-use mathlib.Core.Bool.{Bool, true, false}
+use mathlib.Core.Bool.{Bool, true, false, not, _&&_}
 use mathlib.Core.List.{List, [], _∷_, List·Memᴰ}
 use mathlib.Core.Logic.{_⊎_, inl, inr, ⊎-elim}
-use mathlib.Core.Path.{_≡_, refl, sym, ap, subst, _∙_}
+use mathlib.Core.Path.{_≡_, refl, sym, ap, ap₂, subst, _∙_}
 use Prim.Native.Nat.{ℕ, zero, suc, _+_, _≤_, _<_}
 use native.Mathlib.Nat.{not-suc-le-zero}
 use native.Mathlib.Numerals.{add-one}
 use native.Mathlib.Omega.{arith}
-use lib.Dec.{T, eqb, eqb→eq, eqb-refl}
-use lib.ListN.{length, getD, take, set, length-set}
+use lib.Dec.{T, eqb, eqb→eq, eqb-refl, T-not, not-T}
+use lib.ListN.{length, getD, take, set, replicate, length-set, length-replicate}
 use lib.Seq.{getD-set-same, getD-set-other, getD-take, length-take-le}
-use Rattle.tables.specs.Marks.{argumentsIn, Marked, LowerRows, Closed, Describes, MarkedUpTo, MarkedToo}
-use Rattle.tables.specs.Terms.{Term, termAt, Part, itself, deeper}
-use Rattle.tables.proofs.Words.{passes, fails, by-test, getD-mem, mem-getD, below-or-is}
+use Rattle.tables.specs.Marks.{argumentsIn, Marked, LowerRows, Closed, Describes, MarkedUpTo, MarkedToo, StandsIn, Inside, markedAndMissing}
+use Rattle.tables.specs.Words.{every, someBelow}
+use Rattle.tables.specs.Read.{filled}
+use Rattle.tables.proofs.Records.{written, written-more, written-all}
+use Rattle.tables.specs.Terms.{Term, termAt, parts, Part, itself, deeper, LowerArguments}
+use Rattle.tables.proofs.Words.{and-left, and-right, and-both, decide, passes, fails, by-test, same-test, getD-mem, mem-getD, below-or-is, every-all, all-every, someBelow-some, some-someBelow}
+use Rattle.tables.proofs.Terms.{mem-part, part-mem, part-le}
 
 -- ---- one mark more
 
@@ -33,6 +37,27 @@ kept-set marks t u h m =
     by-test (eqb u t)
     (λ e. subst (Marked (set marks t true)) (sym (eqb→eq u t (passes (eqb u t) e))) (marked-set marks t h))
     (λ e. subst T (sym (getD-set-other marks t u true false (λ d. subst (λ (x : Bool). T x) (sym (ap (λ (z : ℕ). eqb u z) (sym d)) ∙ e) (eqb-refl u)))) m)
+
+-- nothing is marked at first
+pub none-marked : (n u : ℕ) → Marked (replicate n false) u → ⊥
+none-marked zero zero m = m
+none-marked zero (suc u) m = m
+none-marked (suc n) zero m = m
+none-marked (suc n) (suc u) m = none-marked n u m
+
+pub none-closed : (n : ℕ) (rows : List (List ℕ)) (arities : List ℕ) → Closed rows arities (replicate n false)
+none-closed n rows arities u m a k = absurd (none-marked n u m)
+
+-- ---- columns
+
+module _ {ℓ} {X : Type ℓ} (size : ℕ) (filler : X) (f : ℕ → X) (column : List X) (t : ℕ) (e : column ≡ written size filler f t) where
+  -- the next entry of a column is written
+  pub column-next : (x : X) → t < size → x ≡ f t → set column t x ≡ written size filler f (t + 1)
+  column-next x h q = ap₂ (λ (l : List X) (y : X). set l t y) e q ∙ written-more size filler f t h
+
+  -- the column is full
+  pub column-full : (n : ℕ) → t ≡ n → n ≤ size → column ≡ filled size filler n f
+  column-full n q h = e ∙ written-all size filler f n t (omega arith)
 
 -- ---- rows
 
@@ -88,3 +113,68 @@ up-none rows arities t marks x = record { sized = refl; closed = x; reached = λ
 -- a term that is marked already
 pub already : (rows : List (List ℕ)) (arities : List ℕ) (t : ℕ) (marks : List Bool) → Closed rows arities marks → Marked marks t → MarkedToo rows arities t marks marks
 already rows arities t marks x h = record { sized = refl; closed = x; reached = h; kept = λ u m. m; only = λ ts d u m. inl m }
+
+-- ---- the terms inside the literals of a side
+
+module _ (rows : List (List ℕ)) (arities sides lefts rights : List ℕ) (side : ℕ) where
+  -- no literal yet
+  pub inside-none : Inside rows arities sides lefts rights side 0 (replicate 256 false)
+  inside-none =
+      record {
+        sized = length-replicate 256 false;
+        closed = none-closed 256 rows arities;
+        reached = λ k h q. absurd (not-suc-le-zero h);
+        only = λ ts d u m. absurd (none-marked 256 u m);
+      }
+
+  -- what stands in the first literals stands in one more of them
+  stands-more : (ts : List Term) (count u : ℕ) → StandsIn ts sides lefts rights side count u → StandsIn ts sides lefts rights side (count + 1) u
+  stands-more ts count u r = (r .0, omega (arith, r .1), r .2, r .3)
+
+  -- a literal of the side: its two sides are marked
+  pub inside-more : (k : ℕ) (marks mid after : List Bool) → getD sides k 0 ≡ side → Inside rows arities sides lefts rights side k marks → MarkedToo rows arities (getD lefts k 0) marks mid → MarkedToo rows arities (getD rights k 0) mid after → Inside rows arities sides lefts rights side (k + 1) after
+  inside-more k marks mid after e x y z =
+      record {
+        sized = z .sized ∙ y .sized ∙ x .sized;
+        closed = z .closed;
+        reached = λ i h q. ⊎-elim (λ (l : i < k). let r = x .reached i l q in (z .kept (getD lefts i 0) (y .kept (getD lefts i 0) (r .0)), z .kept (getD rights i 0) (y .kept (getD rights i 0) (r .1)))) (λ (l : i ≡ k). subst (λ (n : ℕ). Marked after (getD lefts n 0) × Marked after (getD rights n 0)) (sym l) (z .kept (getD lefts k 0) (y .reached), z .reached)) (below-or-is i k (omega (arith, h)));
+        only = λ ts d u m. ⊎-elim (λ (n : Marked mid u). ⊎-elim (λ (w : Marked marks u). stands-more ts k u (x .only ts d u w)) (λ (p : Part ts u (getD lefts k 0)). (k, omega arith, e, inl p)) (y .only ts d u n)) (λ (p : Part ts u (getD rights k 0)). (k, omega arith, e, inr p)) (z .only ts d u m);
+      }
+
+  -- a literal of the other side: nothing is marked
+  pub inside-same : (k : ℕ) (marks : List Bool) → (getD sides k 0 ≡ side → ⊥) → Inside rows arities sides lefts rights side k marks → Inside rows arities sides lefts rights side (k + 1) marks
+  inside-same k marks n x =
+      record {
+        sized = x .sized;
+        closed = x .closed;
+        reached = λ i h q. ⊎-elim (λ (l : i < k). x .reached i l q) (λ (l : i ≡ k). absurd (n (ap (λ (j : ℕ). getD sides j 0) (sym l) ∙ q))) (below-or-is i k (omega (arith, h)));
+        only = λ ts d u m. stands-more ts k u (x .only ts d u m);
+      }
+
+-- ---- marks and parts
+
+-- where whatever is marked has its arguments marked, the parts of a marked term are marked
+pub part-marked : (rows : List (List ℕ)) (arities : List ℕ) (ts : List Term) → Describes rows arities ts → (marks : List Bool) → Closed rows arities marks → {t u : ℕ} → Part ts u t → Marked marks t → Marked marks u
+part-marked rows arities ts d marks x itself m = m
+part-marked rows arities ts d marks x {t} (deeper {a = a} k p) m = part-marked rows arities ts d marks x p (x t m a (subst (List·Memᴰ a) (sym (d t)) k))
+
+module _ (rows : List (List ℕ)) (arities : List ℕ) (low : LowerRows rows arities) (ts : List Term) (d : Describes rows arities ts) (small : length ts ≤ 256) where
+  -- arguments are lower in the terms, since they are in the rows
+  pub lower-terms : LowerArguments ts
+  lower-terms t h a m = low .lower t (omega arith) a (subst (List·Memᴰ a) (sym (d t)) m)
+
+  -- with t and its parts marked and nothing else, no mark is missing where each part passes
+  pub all-parts : (marks occurring : List Bool) (t : ℕ) → t < length ts → MarkedToo rows arities t (replicate 256 false) marks → not (someBelow (markedAndMissing marks occurring) (length ts)) ≡ every (λ u. getD occurring u false) (parts ts t)
+  all-parts marks occurring t h x = same-test (not (someBelow missing (length ts))) (every occurs (parts ts t)) to from
+    where
+      missing : ℕ → Bool
+      missing = markedAndMissing marks occurring
+
+      occurs : ℕ → Bool
+      occurs u = getD occurring u false
+
+      to : T (not (someBelow missing (length ts))) → T (every occurs (parts ts t))
+      to k = all-every occurs (parts ts t) (λ u m. let p = mem-part ts t u m in ⊎-elim (λ (w : T (occurs u)). w) (λ (w : T (not (occurs u))). absurd (T-not (someBelow missing (length ts)) k (some-someBelow missing (length ts) u (omega (arith, part-le ts lower-terms h p)) (and-both (getD marks u false) (not (occurs u)) (part-marked rows arities ts d marks (x .closed) p (x .reached)) w)))) (decide (occurs u)))
+
+      from : T (every occurs (parts ts t)) → T (not (someBelow missing (length ts)))
+      from k = not-T (someBelow missing (length ts)) (λ w. let r = someBelow-some missing (length ts) w in let m = and-left (getD marks (r .0) false) (not (occurs (r .0))) (r .2) in T-not (occurs (r .0)) (and-right (getD marks (r .0) false) (not (occurs (r .0))) (r .2)) (⊎-elim (λ (z : Marked (replicate 256 false) (r .0)). absurd (none-marked 256 (r .0) z)) (λ (p : Part ts (r .0) t). every-all occurs k (part-mem ts lower-terms h p)) (x .only ts d (r .0) m)))

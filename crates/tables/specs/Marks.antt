@@ -1,12 +1,13 @@
 -- What the marking of terms works on: the arrays of rows and arities, and the marks.
-use mathlib.Core.Bool.{Bool, true, false}
+use mathlib.Core.Bool.{Bool, true, false, cond, not, _&&_}
 use mathlib.Core.List.{List, [], _∷_, List·Memᴰ}
 use mathlib.Core.Logic.{_⊎_}
 use mathlib.Core.Path.{_≡_}
-use Prim.Native.Nat.{ℕ, _≤_, _<_}
-use lib.Dec.{T}
+use Prim.Native.Nat.{ℕ, _+_, _≤_, _<_}
+use lib.Dec.{T, eqb}
 use lib.ListN.{length, getD, take}
-use Rattle.tables.specs.Terms.{Term, termAt, Part}
+use Rattle.tables.specs.Words.{every}
+use Rattle.tables.specs.Terms.{Term, termAt, parts, Part}
 
 -- the arguments of term t: as many of its row as its arity says
 abbrev pub argumentsIn : List (List ℕ) → List ℕ → ℕ → List ℕ
@@ -52,3 +53,33 @@ pub record MarkedToo (rows : List (List ℕ)) (arities : List ℕ) (t : ℕ) (be
   pub reached : Marked after t
   pub kept : (u : ℕ) → Marked before u → Marked after u
   pub only : (ts : List Term) → Describes rows arities ts → (u : ℕ) → Marked after u → Marked before u ⊎ Part ts u t
+
+-- there are at most 1,024 literals, and their sides are term numbers
+pub record LiteralsWithin (lefts rights : List ℕ) (count : ℕ) : Type 0 where
+  pub fits : count ≤ 1024
+  pub left : (k : ℕ) → k < count → getD lefts k 0 < 256
+  pub right : (k : ℕ) → k < count → getD rights k 0 < 256
+
+-- u is a part of a side of a literal of the named side, among the first literals
+abbrev pub StandsIn : List Term → List ℕ → List ℕ → List ℕ → ℕ → ℕ → ℕ → Type 0
+StandsIn ts sides lefts rights side count u =
+    (k : ℕ) × (k < count) × (getD sides k 0 ≡ side) × (Part ts u (getD lefts k 0) ⊎ Part ts u (getD rights k 0))
+
+-- the sides of these literals and all their parts are marked, and nothing else is
+pub record Inside (rows : List (List ℕ)) (arities sides lefts rights : List ℕ) (side count : ℕ) (marks : List Bool) : Type 0 where
+  pub sized : length marks ≡ 256
+  pub closed : Closed rows arities marks
+  pub reached : (k : ℕ) → k < count → getD sides k 0 ≡ side → Marked marks (getD lefts k 0) × Marked marks (getD rights k 0)
+  pub only : (ts : List Term) → Describes rows arities ts → (u : ℕ) → Marked marks u → StandsIn ts sides lefts rights side count u
+
+-- u is inside and has the symbol of t
+abbrev pub sameSymbolInside : List ℕ → List Bool → ℕ → ℕ → Bool
+sameSymbolInside symbols inside t u = getD inside u false && eqb (getD symbols u 0) (getD symbols t 0)
+
+-- u is marked and its symbol does not occur
+abbrev pub markedAndMissing : List Bool → List Bool → ℕ → Bool
+markedAndMissing marks occurring u = getD marks u false && not (getD occurring u false)
+
+-- the colours of t as one number, where the marks say for each term whether its symbol occurs in A, and in B
+abbrev pub partsColour : List Bool → List Bool → List Term → ℕ → ℕ
+partsColour a b ts t = cond (every (λ u. getD a u false) (parts ts t)) 1 0 + cond (every (λ u. getD b u false) (parts ts t)) 2 0

@@ -1,0 +1,85 @@
+use mathlib.Core.Logic.{⊎-elim}
+use mathlib.Core.Path.{subst}
+use Prim.Native.Nat.{_+_}
+use lib.ListN.{getD}
+use lib.Dec.{eqb}
+use mathlib.Core.Bool.{Bool, true, false, not, _&&_}
+use mathlib.Core.Path.{_≡_, refl, sym, ap, ap₂, _∙_}
+use Prim.Native.Nat.{ℕ, _≤_, _-_}
+use native.Mathlib.Omega.{arith}
+use borrow.Author.Needs.{needs}
+use Rattle.tables.specs.Words.{someBelow}
+use Rattle.tables.specs.Marks.{sameSymbolInside, markedAndMissing}
+use Rattle.tables.proofs.Records.{some-found, some-more}
+use Rattle.tables.proofs.colouring.occurs.Statement.{statement}
+use Rattle.tables.proofs.colouring.occurs.Tie as tie
+use Rattle.tables.proofs.colouring.occurs.Reads as reads
+use Rattle.tables.proofs.colouring.occurs.Lts as lts
+
+abbrev Inv-loop : tie.InvT-loop
+Inv-loop symbols inside terms t symbol u₀ u = (symbol ≡ getD symbols t 0) × (u ≤ terms) × (someBelow (sameSymbolInside symbols inside t) u ≡ false)
+
+abbrev μ-loop : tie.MeasureT-loop
+μ-loop symbols inside terms t symbol u₀ u = terms - u
+
+mul-symbol : tie.Need-mul-symbol Inv-loop μ-loop
+mul-symbol c = omega arith
+
+element-copy-out-symbol : tie.Need-element-copy-out-symbol Inv-loop μ-loop
+element-copy-out-symbol c = omega arith
+
+loop-holds : tie.Need-loop-holds Inv-loop μ-loop
+unfolding someBelow
+loop-holds c = (refl, omega arith, refl)
+
+element-copy-out-if1 : tie.Need-element-copy-out-if1 Inv-loop μ-loop
+element-copy-out-if1 c = omega arith
+
+mul-if2 : tie.Need-mul-if2 Inv-loop μ-loop
+mul-if2 c = omega arith
+
+element-copy-out-if2 : tie.Need-element-copy-out-if2 Inv-loop μ-loop
+element-copy-out-if2 c = omega arith
+
+returns : tie.Need-returns Inv-loop μ-loop
+returns c = 
+    let a = c .before .before .before .before .before .before .before .args in
+    sym (some-found (sameSymbolInside (a .symbols .now) (a .inside .now) (a .t)) (a .terms) (c .before .before .before .before .before .loop .u) (omega arith) (ap₂ (λ (x y : Bool). x && y) (c .before .before .if1 .taken) (c .if2 .taken)))
+
+add-u : tie.Need-add-u Inv-loop μ-loop
+add-u c = omega arith
+
+loop-less : tie.Need-loop-less Inv-loop μ-loop
+loop-less c = omega arith
+
+loop-again : tie.Need-loop-again Inv-loop μ-loop
+loop-again c = 
+    let a = c .before .before .before .before .before .args in
+    let u = c .before .before .before .loop .u in
+    let p = sameSymbolInside (a .symbols .now) (a .inside .now) (a .t) in
+    let more : p u ≡ false → someBelow p (u + 1) ≡ false = some-more p u (c .before .before .before .loop .inv .2) in
+    (refl, omega arith, ⊎-elim (λ w. more (ap₂ (λ (x y : Bool). x && y) (w .0 .taken) (w .2 .left))) (λ w. more (ap (λ (x : Bool). x && eqb (getD (a .symbols .now) u 0) (getD (a .symbols .now) (a .t) 0)) (w .left))) (c .if1 .came))
+
+returns-2 : tie.Need-returns-2 Inv-loop μ-loop
+returns-2 c = 
+    let a = c .before .before .before .args in
+    let e : c .before .loop .u ≡ a .terms = omega arith in
+    sym (subst (λ n. someBelow (sameSymbolInside (a .symbols .now) (a .inside .now) (a .t)) n ≡ false) e (c .before .loop .inv .2))
+
+pub occurs-spec : {M : Type 1} → statement M
+occurs-spec =
+    tie.close
+    (tie.spec
+    Inv-loop
+    μ-loop
+    mul-symbol
+    element-copy-out-symbol
+    loop-holds
+    element-copy-out-if1
+    mul-if2
+    element-copy-out-if2
+    returns
+    add-u
+    loop-less
+    loop-again
+    returns-2)
