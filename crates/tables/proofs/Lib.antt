@@ -4,3 +4,5 @@ pub mod Marks
 pub mod Terms
 pub mod Colours
 pub mod Records
+pub mod Filled
+pub mod Sound
