@@ -6,3 +6,4 @@ pub mod Colours
 pub mod Records
 pub mod Filled
 pub mod Sound
+pub mod Columns
