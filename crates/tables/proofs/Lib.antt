@@ -1,2 +1,4 @@
 -- Theorems about the definitions of specs/.
 pub mod Words
+pub mod Records
+pub mod Rows
