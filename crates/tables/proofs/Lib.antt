@@ -7,3 +7,4 @@ pub mod Records
 pub mod Filled
 pub mod Sound
 pub mod Columns
+pub mod Rows

@@ -2,7 +2,7 @@
 use mathlib.Core.Bool.{Bool, true, false, not, _&&_}
 use mathlib.Core.List.{List, [], _∷_, List·Memᴰ}
 use mathlib.Core.Logic.{_⊎_, inl, inr, ⊎-elim}
-use mathlib.Core.Path.{_≡_, refl, sym, ap, ap₂, subst, _∙_}
+use mathlib.Core.Path.{_≡_, refl, sym, ap, subst, _∙_}
 use Prim.Native.Nat.{ℕ, zero, suc, _+_, _≤_, _<_}
 use native.Mathlib.Nat.{not-suc-le-zero}
 use native.Mathlib.Numerals.{add-one}
@@ -12,8 +12,6 @@ use lib.ListN.{length, getD, take, set, replicate, length-set, length-replicate}
 use lib.Seq.{getD-set-same, getD-set-other, getD-take, length-take-le}
 use Rattle.tables.specs.Marks.{argumentsIn, Marked, LowerRows, Closed, Describes, MarkedUpTo, MarkedToo, StandsIn, Inside, markedAndMissing}
 use Rattle.tables.specs.Words.{every, someBelow}
-use Rattle.tables.specs.Read.{filled}
-use Rattle.tables.proofs.Records.{written, written-more, written-all}
 use Rattle.tables.specs.Terms.{Term, termAt, parts, Part, itself, deeper, LowerArguments}
 use Rattle.tables.proofs.Words.{and-left, and-right, and-both, decide, passes, fails, by-test, same-test, getD-mem, mem-getD, below-or-is, every-all, all-every, someBelow-some, some-someBelow}
 use Rattle.tables.proofs.Terms.{mem-part, part-mem, part-le}
@@ -47,17 +45,6 @@ none-marked (suc n) (suc u) m = none-marked n u m
 
 pub none-closed : (n : ℕ) (rows : List (List ℕ)) (arities : List ℕ) → Closed rows arities (replicate n false)
 none-closed n rows arities u m a k = absurd (none-marked n u m)
-
--- ---- columns
-
-module _ {ℓ} {X : Type ℓ} (size : ℕ) (filler : X) (f : ℕ → X) (column : List X) (t : ℕ) (e : column ≡ written size filler f t) where
-  -- the next entry of a column is written
-  pub column-next : (x : X) → t < size → x ≡ f t → set column t x ≡ written size filler f (t + 1)
-  column-next x h q = ap₂ (λ (l : List X) (y : X). set l t y) e q ∙ written-more size filler f t h
-
-  -- the column is full
-  pub column-full : (n : ℕ) → t ≡ n → n ≤ size → column ≡ filled size filler n f
-  column-full n q h = e ∙ written-all size filler f n t (omega arith)
 
 -- ---- rows
 

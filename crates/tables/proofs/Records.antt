@@ -36,14 +36,48 @@ agree a b e f = ap (same a) (sym (ext-getD 0 a b e f)) ∙ passed (same a a) (sa
 
 -- ---- searches from the front
 
--- one number that passes settles it
-pub some-found : (p : ℕ → Bool) (n i : ℕ) → i < n → p i ≡ true → someBelow p n ≡ true
-some-found p n i h e = passed (someBelow p n) (some-someBelow p n i h (passes (p i) e))
+module _ (p : ℕ → Bool) (n : ℕ) where
+  -- the loops that ask whether some number below n passes: none below i did
+  abbrev pub NoneYet : ℕ → Type 0
+  NoneYet i = (i ≤ n) × (someBelow p i ≡ false)
 
--- a number that fails is passed over
-pub some-more : (p : ℕ → Bool) (i : ℕ) → someBelow p i ≡ false → p i ≡ false → someBelow p (i + 1) ≡ false
-unfolding someBelow
-some-more p i e h = ap (someBelow p) (add-one i) ∙ ap₂ (λ (a b : Bool). a || b) e h
+  pub none-yet : NoneYet 0
+  unfolding someBelow
+  none-yet = (omega arith, refl)
+
+  -- one number that passes settles it
+  pub some-passed : (i : ℕ) (b : Bool) → i < n → b ≡ p i → b ≡ true → true ≡ someBelow p n
+  some-passed i b h e t = sym (passed (someBelow p n) (some-someBelow p n i h (passes (p i) (sym e ∙ t))))
+
+  -- a number that fails is passed over
+  pub none-more : (i : ℕ) (b : Bool) → NoneYet i → i < n → b ≡ p i → b ≡ false → NoneYet (i + 1)
+  unfolding someBelow
+  none-more i b y h e t = (omega arith, ap (someBelow p) (add-one i) ∙ ap₂ (λ (a c : Bool). a || c) (y .1) (sym e ∙ t))
+
+  -- all were passed over
+  pub none-passed : (i : ℕ) → NoneYet i → n ≤ i → false ≡ someBelow p n
+  none-passed i y h = let e : i ≡ n = omega arith in sym (y .1) ∙ ap (someBelow p) e
+
+  -- the loops that look for the first number below n that passes: none below i did
+  abbrev pub NotYet : ℕ → Type 0
+  NotYet i = (i ≤ n) × (firstBelow p i ≡ none)
+
+  pub not-yet : NotYet 0
+  unfolding firstBelow
+  not-yet = (omega arith, refl)
+
+  -- the first number that passes
+  pub first-found : (i : ℕ) (b : Bool) → NotYet i → i < n → b ≡ p i → b ≡ true → some i ≡ firstBelow p n
+  first-found i b y h e t = sym (first-firstBelow p n i (record { within = h; passes = passes (p i) (sym e ∙ t); none-before = firstBelow-none p i (y .1) }))
+
+  -- a number that fails is passed over
+  pub not-more : (i : ℕ) (b : Bool) → NotYet i → i < n → b ≡ p i → b ≡ false → NotYet (i + 1)
+  unfolding firstBelow orElse
+  not-more i b y h e t = (omega arith, ap (firstBelow p) (add-one i) ∙ ap₂ (λ (o : Option ℕ) (d : Bool). orElse o (cond d (some i) none)) (y .1) (sym e ∙ t))
+
+  -- all were passed over
+  pub not-found : (i : ℕ) → NotYet i → n ≤ i → none ≡ firstBelow p n
+  not-found i y h = let e : i ≡ n = omega arith in sym (y .1) ∙ ap (firstBelow p) e
 
 -- some number passes one of two tests where some number passes the one or some number passes the other
 pub some-either : (p q : ℕ → Bool) (n : ℕ) → someBelow (λ j. p j || q j) n ≡ (someBelow p n || someBelow q n)
@@ -63,15 +97,6 @@ some-either p q n = same-test (someBelow (λ j. p j || q j) n) (someBelow p n ||
         (λ w. let r = someBelow-some p n w in some-someBelow (λ j. p j || q j) n (r .0) (r .1) (or-left (p (r .0)) (q (r .0)) (r .2)))
         (λ w. let r = someBelow-some q n w in some-someBelow (λ j. p j || q j) n (r .0) (r .1) (or-right (p (r .0)) (q (r .0)) (r .2)))
         (or-cases (someBelow p n) (someBelow q n) h)
-
--- the first number that passes, after none before it did
-pub first-found : (p : ℕ → Bool) (n i : ℕ) → firstBelow p i ≡ none → i < n → p i ≡ true → firstBelow p n ≡ some i
-first-found p n i q h e = first-firstBelow p n i (record { within = h; passes = passes (p i) e; none-before = firstBelow-none p i q })
-
--- a number that fails is passed over
-pub first-more : (p : ℕ → Bool) (i : ℕ) → firstBelow p i ≡ none → p i ≡ false → firstBelow p (i + 1) ≡ none
-unfolding firstBelow orElse
-first-more p i e h = ap (firstBelow p) (add-one i) ∙ ap₂ (λ (o : Option ℕ) (b : Bool). orElse o (cond b (some i) none)) e h
 
 -- ---- arrays filled from the front
 
@@ -96,9 +121,22 @@ module _ {ℓ} {X : Type ℓ} (size : ℕ) (filler : X) (f : ℕ → X) where
       ap (λ (l : List X). l ++ replicate (size - (i + 1)) filler) (sym (map-append f (below i) (i ∷ []))) ∙
       ap (λ (n : ℕ). map f (below n) ++ replicate (size - (i + 1)) filler) (sym (add-one i))
 
-  -- it is filled once as many places are written as there are, and fit
-  pub written-all : (n i : ℕ) → i ≡ min n size → written i ≡ filled size filler n f
+  -- the loops that fill the array from the front: of the places below n the first i are written
+  abbrev pub Filling : ℕ → ℕ → List X → Type ℓ
+  Filling n i xs = (i ≤ n) × (xs ≡ written i)
+
+  pub filling-none : (n : ℕ) → Filling n 0 (replicate size filler)
+  filling-none n = (omega arith, written-none)
+
+  -- one turn
+  pub filling-more : (n i : ℕ) (xs : List X) (x : X) → n ≤ size → Filling n i xs → i < n → x ≡ f i → Filling n (i + 1) (set xs i x)
+  filling-more n i xs x h w l e =
+      (omega arith, ap₂ (λ (ys : List X) (y : X). set ys i y) (w .1) e ∙ written-more i (omega arith))
+
+  -- it is filled once as many places are written as there are records, and fit
+  pub filling-all : (count n i : ℕ) (xs : List X) → n ≡ min count size → Filling n i xs → n ≤ i → xs ≡ filled size filler count f
   unfolding filled
-  written-all n i e =
-      let q : size - i ≡ size - n = omega arith in
-      ap₂ (λ (a b : ℕ). map f (below a) ++ replicate b filler) e q
+  filling-all count n i xs e w h =
+      let q : i ≡ min count size = omega arith in
+      let r : size - i ≡ size - count = omega arith in
+      w .1 ∙ ap₂ (λ (a b : ℕ). map f (below a) ++ replicate b filler) q r

@@ -1,5 +1,10 @@
 // The two tables of document 01: any bytes in; the refusals 1 to 6 with their place, or the tables read.
 
+pub mod bytes;
+pub mod checks;
+pub mod literal_table;
+pub mod term_table;
+
 // What the checks of rows 1 to 6 say: sound, or the row that refuses, with its place.
 pub enum Check {
     Sound,
@@ -9,6 +14,12 @@ pub enum Check {
     Arity(usize),
     Repeated(usize),
     Literal(usize),
+}
+
+// The place that a row refuses at, if it refuses.
+pub enum Found {
+    At(usize),
+    Nothing,
 }
 
 // The tables as they were read; where they are refused, only the check says something and all else is 0. Past the counts the arrays

@@ -1,17 +1,11 @@
-use Rattle.tables.proofs.Marks.{column-next, column-full}
-use mathlib.Core.Bool.{Bool, false, true, _||_}
 use mathlib.Core.List.{List}
-use mathlib.Core.Logic.{⊎-elim}
-use mathlib.Core.Path.{_≡_, refl, sym, ap, ap₂, subst, _∙_}
-use Prim.Native.Nat.{ℕ, _+_, _≤_, _-_, min}
-use native.Mathlib.Omega.{arith}
-use borrow.Author.Needs.{needs}
-use lib.ListN.{length, getD, set, length-set}
-use Rattle.tables.specs.Words.{someBelow}
+use mathlib.Core.Path.{_≡_}
+use lib.ListN.{length}
 use Rattle.tables.specs.Terms.{Term}
-use Rattle.tables.specs.Marks.{Describes, sameSymbolInside, partsColour}
-use Rattle.tables.specs.Read.{filled}
-use Rattle.tables.proofs.Records.{written, written-none, written-more, written-all}
+use Rattle.tables.specs.Marks.{Describes, partsColour}
+use Rattle.tables.proofs.Records.{Filling, filling-none, filling-more, filling-all}
+use Prim.Native.Nat.{ℕ, _-_}
+use native.Mathlib.Omega.{arith}
 use Rattle.tables.proofs.colouring.colours.Statement.{statement}
 use Rattle.tables.proofs.colouring.colours.Tie as tie
 use Rattle.tables.proofs.colouring.colours.Reads as reads
@@ -20,13 +14,13 @@ use Rattle.tables.proofs.colouring.colour.Reads as colour-reads
 
 abbrev Inv-loop : tie.InvT-loop
 Inv-loop rows arities in-a in-b terms column₀ t₀ column t = 
-    (t ≤ terms) × ((ts : List Term) → Describes rows arities ts → length ts ≡ terms → column ≡ written 256 0 (partsColour in-a in-b ts) t)
+    (ts : List Term) → Describes rows arities ts → length ts ≡ terms → Filling 256 0 (partsColour in-a in-b ts) terms t column
 
 abbrev μ-loop : tie.MeasureT-loop
 μ-loop rows arities in-a in-b terms column₀ t₀ column t = terms - t
 
 loop-holds : tie.Need-loop-holds Inv-loop μ-loop
-loop-holds c = (omega arith, λ ts d n. written-none 256 0 (partsColour (c .args .in-a .now) (c .args .in-b .now) ts))
+loop-holds c = λ ts d n. filling-none 256 0 _ _
 
 colour-requires : tie.Need-colour-requires Inv-loop μ-loop
 colour-requires c κs = (c .before .before .pre .0, (omega arith, omega arith))
@@ -41,16 +35,10 @@ loop-less : tie.Need-loop-less Inv-loop μ-loop
 loop-less c = omega arith
 
 loop-again : tie.Need-loop-again Inv-loop μ-loop
-loop-again c = 
-    let a = c .before .before .before .args in
-    let i = c .before .before .loop in
-    (omega arith, λ ts d n. column-next 256 0 (partsColour (a .in-a .now) (a .in-b .now) ts) (i .column) (i .t) (i .inv .1 ts d n) (c .colour .result) (omega arith) (c .colour .ensures ts d n))
+loop-again c = λ ts d n. filling-more _ _ _ _ _ _ _ (omega arith) (c .before .before .loop .inv ts d n) (c .before .loop-test .taken) (c .colour .ensures ts d n)
 
 returns : tie.Need-returns Inv-loop μ-loop
-returns c = λ ts d n.
-    let a = c .before .before .args in
-    let i = c .before .loop in
-    column-full 256 0 (partsColour (a .in-a .now) (a .in-b .now) ts) (i .column) (i .t) (i .inv .1 ts d n) (a .terms) (omega arith) (omega arith)
+returns c = λ ts d n. filling-all _ _ _ _ _ _ _ (omega arith) (c .before .loop .inv ts d n) (c .loop-test .left)
 
 pub colours-spec : {M : Type 1} → statement M
 colours-spec =

@@ -1,17 +1,9 @@
-use Rattle.tables.proofs.Marks.{column-next, column-full}
-use mathlib.Core.Bool.{Bool, false, true, _||_}
-use mathlib.Core.List.{List}
-use mathlib.Core.Logic.{⊎-elim}
-use mathlib.Core.Path.{_≡_, refl, sym, ap, ap₂, subst, _∙_}
-use Prim.Native.Nat.{ℕ, _+_, _≤_, _-_, min}
-use native.Mathlib.Omega.{arith}
-use borrow.Author.Needs.{needs}
-use lib.ListN.{length, getD, set, length-set}
+use mathlib.Core.Bool.{false}
 use Rattle.tables.specs.Words.{someBelow}
-use Rattle.tables.specs.Terms.{Term}
-use Rattle.tables.specs.Marks.{Describes, sameSymbolInside, partsColour}
-use Rattle.tables.specs.Read.{filled}
-use Rattle.tables.proofs.Records.{written, written-none, written-more, written-all}
+use Rattle.tables.specs.Marks.{sameSymbolInside}
+use Rattle.tables.proofs.Records.{Filling, filling-none, filling-more, filling-all}
+use Prim.Native.Nat.{ℕ, _-_}
+use native.Mathlib.Omega.{arith}
 use Rattle.tables.proofs.colouring.occurring.Statement.{statement}
 use Rattle.tables.proofs.colouring.occurring.Tie as tie
 use Rattle.tables.proofs.colouring.occurring.Reads as reads
@@ -19,14 +11,13 @@ use Rattle.tables.proofs.colouring.occurring.Lts as lts
 use Rattle.tables.proofs.colouring.occurs.Reads as occurs-reads
 
 abbrev Inv-loop : tie.InvT-loop
-Inv-loop symbols inside terms column₀ t₀ column t = 
-    (t ≤ terms) × (column ≡ written 256 false (λ u. someBelow (sameSymbolInside symbols inside u) terms) t)
+Inv-loop symbols inside terms column₀ t₀ column t = Filling 256 false (λ u. someBelow (sameSymbolInside symbols inside u) terms) terms t column
 
 abbrev μ-loop : tie.MeasureT-loop
 μ-loop symbols inside terms column₀ t₀ column t = terms - t
 
 loop-holds : tie.Need-loop-holds Inv-loop μ-loop
-loop-holds c = (omega arith, written-none 256 false (λ u. someBelow (sameSymbolInside (c .args .symbols .now) (c .args .inside .now) u) (c .args .terms)))
+loop-holds c = filling-none 256 false _ _
 
 occurs-requires : tie.Need-occurs-requires Inv-loop μ-loop
 occurs-requires c κs = omega arith
@@ -41,16 +32,10 @@ loop-less : tie.Need-loop-less Inv-loop μ-loop
 loop-less c = omega arith
 
 loop-again : tie.Need-loop-again Inv-loop μ-loop
-loop-again c = 
-    let a = c .before .before .before .args in
-    let i = c .before .before .loop in
-    (omega arith, column-next 256 false (λ u. someBelow (sameSymbolInside (a .symbols .now) (a .inside .now) u) (a .terms)) (i .column) (i .t) (i .inv .1) (c .occurs .result) (omega arith) (c .occurs .ensures))
+loop-again c = filling-more _ _ _ _ _ _ _ (omega arith) (c .before .before .loop .inv) (c .before .loop-test .taken) (c .occurs .ensures)
 
 returns : tie.Need-returns Inv-loop μ-loop
-returns c = 
-    let a = c .before .before .args in
-    let i = c .before .loop in
-    column-full 256 false (λ u. someBelow (sameSymbolInside (a .symbols .now) (a .inside .now) u) (a .terms)) (i .column) (i .t) (i .inv .1) (a .terms) (omega arith) (omega arith)
+returns c = filling-all _ _ _ _ _ _ _ (omega arith) (c .before .loop .inv) (c .loop-test .left)
 
 pub occurring-spec : {M : Type 1} → statement M
 occurring-spec =

@@ -1,23 +1,19 @@
+use mathlib.Core.Bool.{Bool, false, _&&_}
 use mathlib.Core.Logic.{⊎-elim}
-use mathlib.Core.Path.{subst}
-use Prim.Native.Nat.{_+_}
-use lib.ListN.{getD}
+use mathlib.Core.Path.{_≡_, refl, ap, ap₂}
 use lib.Dec.{eqb}
-use mathlib.Core.Bool.{Bool, true, false, not, _&&_}
-use mathlib.Core.Path.{_≡_, refl, sym, ap, ap₂, _∙_}
-use Prim.Native.Nat.{ℕ, _≤_, _-_}
+use lib.ListN.{getD}
+use Rattle.tables.specs.Marks.{sameSymbolInside}
+use Rattle.tables.proofs.Records.{NoneYet, none-yet, some-passed, none-more, none-passed}
+use Prim.Native.Nat.{ℕ, _-_}
 use native.Mathlib.Omega.{arith}
-use borrow.Author.Needs.{needs}
-use Rattle.tables.specs.Words.{someBelow}
-use Rattle.tables.specs.Marks.{sameSymbolInside, markedAndMissing}
-use Rattle.tables.proofs.Records.{some-found, some-more}
 use Rattle.tables.proofs.colouring.occurs.Statement.{statement}
 use Rattle.tables.proofs.colouring.occurs.Tie as tie
 use Rattle.tables.proofs.colouring.occurs.Reads as reads
 use Rattle.tables.proofs.colouring.occurs.Lts as lts
 
 abbrev Inv-loop : tie.InvT-loop
-Inv-loop symbols inside terms t symbol u₀ u = (symbol ≡ getD symbols t 0) × (u ≤ terms) × (someBelow (sameSymbolInside symbols inside t) u ≡ false)
+Inv-loop symbols inside terms t symbol u₀ u = (symbol ≡ getD symbols t 0) × NoneYet (sameSymbolInside symbols inside t) terms u
 
 abbrev μ-loop : tie.MeasureT-loop
 μ-loop symbols inside terms t symbol u₀ u = terms - u
@@ -29,8 +25,7 @@ element-copy-out-symbol : tie.Need-element-copy-out-symbol Inv-loop μ-loop
 element-copy-out-symbol c = omega arith
 
 loop-holds : tie.Need-loop-holds Inv-loop μ-loop
-unfolding someBelow
-loop-holds c = (refl, omega arith, refl)
+loop-holds c = (refl, none-yet _ _)
 
 element-copy-out-if1 : tie.Need-element-copy-out-if1 Inv-loop μ-loop
 element-copy-out-if1 c = omega arith
@@ -42,9 +37,7 @@ element-copy-out-if2 : tie.Need-element-copy-out-if2 Inv-loop μ-loop
 element-copy-out-if2 c = omega arith
 
 returns : tie.Need-returns Inv-loop μ-loop
-returns c = 
-    let a = c .before .before .before .before .before .before .before .args in
-    sym (some-found (sameSymbolInside (a .symbols .now) (a .inside .now) (a .t)) (a .terms) (c .before .before .before .before .before .loop .u) (omega arith) (ap₂ (λ (x y : Bool). x && y) (c .before .before .if1 .taken) (c .if2 .taken)))
+returns c = some-passed _ _ _ _ (c .before .before .before .before .loop-test .taken) refl (ap₂ (λ (x y : Bool). x && y) (c .before .before .if1 .taken) (c .if2 .taken))
 
 add-u : tie.Need-add-u Inv-loop μ-loop
 add-u c = omega arith
@@ -55,16 +48,13 @@ loop-less c = omega arith
 loop-again : tie.Need-loop-again Inv-loop μ-loop
 loop-again c = 
     let a = c .before .before .before .before .before .args in
-    let u = c .before .before .before .loop .u in
-    let p = sameSymbolInside (a .symbols .now) (a .inside .now) (a .t) in
-    let more : p u ≡ false → someBelow p (u + 1) ≡ false = some-more p u (c .before .before .before .loop .inv .2) in
-    (refl, omega arith, ⊎-elim (λ w. more (ap₂ (λ (x y : Bool). x && y) (w .0 .taken) (w .2 .left))) (λ w. more (ap (λ (x : Bool). x && eqb (getD (a .symbols .now) u 0) (getD (a .symbols .now) (a .t) 0)) (w .left))) (c .if1 .came))
+    let u = c .before .before .before .loop .u in (
+      refl,
+      none-more _ _ _ _ (c .before .before .before .loop .inv .1) (c .before .before .loop-test .taken) refl (⊎-elim (λ w. ap₂ (λ (x y : Bool). x && y) (w .0 .taken) (w .2 .left)) (λ w. ap (λ (x : Bool). x && eqb (getD (a .symbols .now) u 0) (getD (a .symbols .now) (a .t) 0)) (w .left)) (c .if1 .came)),
+    )
 
 returns-2 : tie.Need-returns-2 Inv-loop μ-loop
-returns-2 c = 
-    let a = c .before .before .before .args in
-    let e : c .before .loop .u ≡ a .terms = omega arith in
-    sym (subst (λ n. someBelow (sameSymbolInside (a .symbols .now) (a .inside .now) (a .t)) n ≡ false) e (c .before .loop .inv .2))
+returns-2 c = none-passed _ _ _ (c .before .loop .inv .1) (c .loop-test .left)
 
 pub occurs-spec : {M : Type 1} → statement M
 occurs-spec =

@@ -1,0 +1,17 @@
+use Rattle.tables.specs.Checks.{lengthRow}
+use borrow.Author.Needs.{needs}
+use Rattle.tables.proofs.checks.length_row.Statement.{statement}
+use Rattle.tables.proofs.checks.length_row.Tie as tie
+use Rattle.tables.proofs.checks.length_row.Reads as reads
+use Rattle.tables.proofs.checks.length_row.Lts as lts
+use Rattle.tables.proofs.checks.place.Reads as place-reads
+
+place-requires : tie.Need-place-requires
+place-requires c κs = search needs
+
+returns : tie.Need-returns
+unfolding lengthRow
+returns c = search needs
+
+pub length-row-spec : {M : Type 1} → statement M
+length-row-spec = tie.close (tie.spec place-requires returns)

@@ -1,0 +1,49 @@
+use mathlib.Core.Bool.{or-false}
+use native.Mathlib.Omega.{arith}
+use borrow.Author.Tests.{lt-ltb, le-ltb, le-leb, lt-leb}
+use Rattle.tables.specs.TermTable.{notLower, unusedNotZero}
+use borrow.Author.Needs.{needs}
+use Rattle.tables.proofs.term_table.argument_wrong.Statement.{statement}
+use Rattle.tables.proofs.term_table.argument_wrong.Tie as tie
+use Rattle.tables.proofs.term_table.argument_wrong.Reads as reads
+use Rattle.tables.proofs.term_table.argument_wrong.Lts as lts
+use Rattle.tables.proofs.bytes.word_at.Reads as word-at-reads
+
+shared-slice-read-arity : tie.Need-shared-slice-read-arity
+shared-slice-read-arity c = search needs
+
+cast-arity : tie.Need-cast-arity
+cast-arity c = omega (arith, c .shared-slice-known2 .given 2)
+
+mul-word-at : tie.Need-mul-word-at
+mul-word-at c = search needs
+
+add-word-at : tie.Need-add-word-at
+add-word-at c = search needs
+
+word-at-requires : tie.Need-word-at-requires
+word-at-requires c κs = search needs
+
+cast-argument : tie.Need-cast-argument
+cast-argument c = search needs
+
+returns : tie.Need-returns
+unfolding notLower unusedNotZero
+returns c = rw (c .before .word-at .ensures) (simp (lt-ltb _ _ (c .if1 .taken), lt-leb _ _ (c .if1 .taken), or-false))
+
+returns-2 : tie.Need-returns-2
+unfolding notLower unusedNotZero
+returns-2 c = rw (c .before .word-at .ensures) (simp (le-ltb _ _ (c .if1 .left), le-leb _ _ (c .if1 .left)))
+
+pub argument-wrong-spec : {M : Type 1} → statement M
+argument-wrong-spec =
+    tie.close
+    (tie.spec
+    shared-slice-read-arity
+    cast-arity
+    mul-word-at
+    add-word-at
+    word-at-requires
+    cast-argument
+    returns
+    returns-2)
