@@ -226,3 +226,50 @@ module _ (bs ls : List ℕ) (s : SoundTables bs ls) where
         from t h =
             let r = inUse-part (termsOf bs) (literalsOf ls) (lower-arguments bs ls s) (sides-within bs ls s) t h in
             on t (r .0) (r .0 .side) refl (r .1) (r .2)
+
+-- ---- the arrays, as the code has them
+
+-- arrays that hold what the columns of sound tables hold
+pub record Columns (bs ls symbols arities : List ℕ) (rows : List (List ℕ)) (sides lefts rights : List ℕ) : Type 0 where
+  pub tables : SoundTables bs ls
+  pub symbols-read : symbols ≡ symbolColumn bs
+  pub arities-read : arities ≡ arityColumn bs
+  pub rows-read : rows ≡ argumentRows bs
+  pub sides-read : sides ≡ sideColumn ls
+  pub lefts-read : lefts ≡ leftColumn ls
+  pub rights-read : rights ≡ rightColumn ls
+
+module _ (bs ls symbols arities : List ℕ) (rows : List (List ℕ)) (sides lefts rights : List ℕ) (c : Columns bs ls symbols arities rows sides lefts rights) where
+  pub columns-lower : LowerRows rows arities
+  columns-lower = subst (λ (r : List (List ℕ)). LowerRows r arities) (sym (c .rows-read)) (subst (LowerRows (argumentRows bs)) (sym (c .arities-read)) (lower-rows bs ls (c .tables)))
+
+  pub columns-within : LiteralsWithin lefts rights (literalCount ls)
+  columns-within = subst (λ (l : List ℕ). LiteralsWithin l rights (literalCount ls)) (sym (c .lefts-read)) (subst (λ (r : List ℕ). LiteralsWithin (leftColumn ls) r (literalCount ls)) (sym (c .rights-read)) (literals-within bs ls (c .tables)))
+
+  columns-described : Describes rows arities (termsOf bs)
+  columns-described = subst (λ (r : List (List ℕ)). Describes r arities (termsOf bs)) (sym (c .rows-read)) (subst (λ (a : List ℕ). Describes (argumentRows bs) a (termsOf bs)) (sym (c .arities-read)) (described bs ls (c .tables)))
+
+  columns-inside : (side : ℕ) (marks : List Bool) → Inside rows arities sides lefts rights side (literalCount ls) marks → Inside (argumentRows bs) (arityColumn bs) (sideColumn ls) (leftColumn ls) (rightColumn ls) side (literalCount ls) marks
+  columns-inside side marks x =
+      subst (λ (r : List ℕ). Inside (argumentRows bs) (arityColumn bs) (sideColumn ls) (leftColumn ls) r side (literalCount ls) marks) (c .rights-read)
+      (subst (λ (l : List ℕ). Inside (argumentRows bs) (arityColumn bs) (sideColumn ls) l rights side (literalCount ls) marks) (c .lefts-read)
+      (subst (λ (d : List ℕ). Inside (argumentRows bs) (arityColumn bs) d lefts rights side (literalCount ls) marks) (c .sides-read)
+      (subst (λ (a : List ℕ). Inside (argumentRows bs) a sides lefts rights side (literalCount ls) marks) (c .arities-read)
+      (subst (λ (r : List (List ℕ)). Inside r arities sides lefts rights side (literalCount ls) marks) (c .rows-read) x))))
+
+  module _ (a b : List Bool) (x : Inside rows arities sides lefts rights 1 (literalCount ls) a) (y : Inside rows arities sides lefts rights 2 (literalCount ls) b) where
+    pub columns-used : (used : List Bool) → used ≡ filled 256 false (termCount bs) (λ t. getD a t false || getD b t false) → used ≡ filled 256 false (termCount bs) (inUse (termsOf bs) (literalsOf ls))
+    columns-used used e = e ∙ used-read bs ls (c .tables) a b (columns-inside 1 a x) (columns-inside 2 b y)
+
+    -- what occurs according to the marks of a side
+    abbrev occurs-by : List Bool → List Bool
+    occurs-by marks = filled 256 false (termCount bs) (λ t. someBelow (sameSymbolInside symbols marks t) (termCount bs))
+
+    pub columns-colours : (in-a in-b : List Bool) (colours : List ℕ) → in-a ≡ occurs-by a → in-b ≡ occurs-by b → ((ts : List Term) → Describes rows arities ts → length ts ≡ termCount bs → colours ≡ filled 256 0 (termCount bs) (partsColour in-a in-b ts)) → colours ≡ filled 256 0 (termCount bs) (colourNumber (termsOf bs) (literalsOf ls) (termsOf bs))
+    columns-colours in-a in-b colours p q e =
+        e (termsOf bs) columns-described (length-termsOf bs) ∙
+        ap₂ (λ (u v : List Bool). filled 256 0 (termCount bs) (partsColour u v (termsOf bs))) (p ∙ by a) (q ∙ by b) ∙
+        colours-read bs ls (c .tables) a b (columns-inside 1 a x) (columns-inside 2 b y)
+      where
+        by : (marks : List Bool) → occurs-by marks ≡ filled 256 false (termCount bs) (λ t. someBelow (sameSymbolInside (symbolColumn bs) marks t) (termCount bs))
+        by marks = ap (λ (s : List ℕ). filled 256 false (termCount bs) (λ t. someBelow (sameSymbolInside s marks t) (termCount bs))) (c .symbols-read)

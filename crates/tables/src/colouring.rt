@@ -27,7 +27,7 @@ fn mark(rows: &[[u16; 4]; 256], arities: &[u8; 256], marks: &mut [bool; 256], t:
 }
 
 // Which terms stand in the literals of a side: the sides of these literals and, all the way down, their arguments.
-fn inside(
+pub fn inside(
     rows: &[[u16; 4]; 256],
     arities: &[u8; 256],
     sides: &[u8; 1024],
@@ -69,7 +69,7 @@ fn occurs(symbols: &[u16; 256], inside: &[bool; 256], terms: usize, t: usize) ->
 }
 
 // For each term, whether its symbol occurs.
-fn occurring(symbols: &[u16; 256], inside: &[bool; 256], terms: usize) -> [bool; 256]
+pub fn occurring(symbols: &[u16; 256], inside: &[bool; 256], terms: usize) -> [bool; 256]
     requires { ⌜ terms ≤ 256 ⌝ }
     ensures { λ r. ⌜ r ≡ filled 256 false terms (λ t. someBelow (sameSymbolInside (now (symbols .entry)) (now (inside .entry)) t) terms) ⌝ }
 {
@@ -129,7 +129,7 @@ fn colour(
 }
 
 // For each term, its colours.
-fn colours(
+pub fn colours(
     rows: &[[u16; 4]; 256],
     arities: &[u8; 256],
     in_a: &[bool; 256],
@@ -150,7 +150,7 @@ fn colours(
 }
 
 // For each term, whether it is in use: it stands in a literal of A or in one of B.
-fn in_use(a: &[bool; 256], b: &[bool; 256], terms: usize) -> [bool; 256]
+pub fn in_use(a: &[bool; 256], b: &[bool; 256], terms: usize) -> [bool; 256]
     requires { ⌜ terms ≤ 256 ⌝ }
     ensures { λ r. ⌜ r ≡ filled 256 false terms (λ t. getD (now (a .entry)) t false || getD (now (b .entry)) t false) ⌝ }
 {

@@ -2,8 +2,13 @@
 
 pub mod bytes;
 pub mod checks;
+pub mod colouring;
 pub mod literal_table;
+pub mod reading;
 pub mod term_table;
+
+ghost use mathlib.Core.Path.{_≡_};
+ghost use Rattle.tables.specs.Read.{tablesRead};
 
 // What the checks of rows 1 to 6 say: sound, or the row that refuses, with its place.
 pub enum Check {
@@ -38,4 +43,14 @@ pub struct Tables {
     pub rights: [u16; 1024],
 }
 
-mod colouring;
+// Any two byte strings, read: the row that refuses them with its place, or the tables as arrays.
+pub fn read(terms: &[u8], literals: &[u8]) -> Tables
+    ensures { λ r. ⌜ r ≡ tablesRead (now (terms .entry)) (now (literals .entry)) ⌝ }
+{
+    let check = checks::check(terms, literals);
+    if let Check::Sound = check {
+        reading::sound(terms, literals)
+    } else {
+        reading::refused(check)
+    }
+}
