@@ -181,3 +181,14 @@ module _ (bs ls : List ℕ) (s : SoundTables bs ls) where
       let q = sound-literal (p .0) (below-mem (literalCount ls) (p .1)) in
       let n : termCount bs ≡ length (termsOf bs) = sym (length-termsOf bs) in
       subst (λ (x : Literal). (x .left < length (termsOf bs)) × (x .right < length (termsOf bs))) (p .2) (subst (λ (k : ℕ). wordAt (literalRecord ls (p .0)) 2 < k) n (q .left), subst (λ (k : ℕ). wordAt (literalRecord ls (p .0)) 4 < k) n (q .right))
+
+-- a check that is not sound has a number
+pub refused-number : (check : Check) → (check ≡ Sound → ⊥) → eqb (numberOf check) 0 ≡ false
+unfolding numberOf
+refused-number Sound f = absurd (f refl)
+refused-number (Length p) f = refl
+refused-number (Count p) f = refl
+refused-number (Layout p) f = refl
+refused-number (Arity p) f = refl
+refused-number (Repeated p) f = refl
+refused-number (Broken p) f = refl

@@ -1,3 +1,19 @@
+use mathlib.Core.Bool.{Bool, cond}
+use mathlib.Core.List.{List, [], _∷_}
+use mathlib.Core.Logic.{⊎-elim}
+use mathlib.Core.Path.{_≡_, sym, ap, subst, _∙_}
+use Prim.Native.Nat.{ℕ}
+use native.Mathlib.Omega.{arith}
+use lib.Dec.{eqb}
+use types.Run.{OneOf}
+use denote.Enum.Declared.{tagOf}
+use Rattle.tables.specs.Checks.{checked, numberOf}
+use Rattle.tables.specs.Read.{soundTables, refusedTables, tablesRead}
+use Rattle.tables.specs.declared.Tables.{Tables}
+use Rattle.tables.specs.declared.Check.{Check}
+use Rattle.tables.specs.declared.Check.the-variants.{Sound}
+use Rattle.tables.proofs.Check.{the-type}
+use Rattle.tables.proofs.Sound.{refused-number}
 use borrow.Author.Needs.{needs}
 use Rattle.tables.proofs.read.Statement.{statement}
 use Rattle.tables.proofs.read.Tie as tie
@@ -7,29 +23,42 @@ use Rattle.tables.proofs.checks.check.Reads as check-reads
 use Rattle.tables.proofs.reading.refused.Reads as refused-reads
 use Rattle.tables.proofs.reading.sound.Reads as sound-reads
 
--- src/lib.rt:50:9
+-- the tables by what the check says
+abbrev read-by : Check → List ℕ → List ℕ → Tables
+read-by check bs ls = cond (eqb (numberOf check) 0) (soundTables check bs ls) (refusedTables check)
+
+-- the variants after the first have other numbers than it
+no-key : OneOf (1 ∷ 2 ∷ 3 ∷ 4 ∷ 5 ∷ 6 ∷ []) 0 → ⊥
+no-key = ⊎-elim (λ e. omega arith) (⊎-elim (λ e. omega arith) (⊎-elim (λ e. omega arith) (⊎-elim (λ e. omega arith) (⊎-elim (λ e. omega arith) (λ e. omega arith)))))
+
 check-requires : tie.Need-check-requires
 check-requires c κs = search needs
 
--- src/lib.rt:52:9
 enum-told : tie.Need-enum-told
 enum-told c = search needs
 
--- src/lib.rt:52:9
 sound-requires : tie.Need-sound-requires
-sound-requires c κs = ?
+sound-requires c κs = sym (c .before .before .check .ensures) ∙ c .enum-told .given .1
 
--- src/lib.rt:54:9
 refused-requires : tie.Need-refused-requires
 refused-requires c κs = search needs
 
--- src/lib.rt:47:1
 returns : tie.Need-returns
-returns c = ?
+unfolding tablesRead numberOf
+returns c = 
+    let a = c .before .before .before .before .before .before .args in
+    let e : checked (a .terms .now) (a .literals .now) ≡ Sound = sym (c .before .before .before .check .ensures) ∙ c .before .enum-told .given .1 in
+    c .sound .ensures ∙ ap (λ (k : Check). read-by k (a .terms .now) (a .literals .now)) (sym e)
 
--- src/lib.rt:47:1
 returns-2 : tie.Need-returns-2
-returns-2 c = ?
+unfolding tablesRead
+returns-2 c = 
+    let a = c .before .before .before .before .before .args in
+    let k = c .before .before .check .result in
+    let n : k ≡ Sound → ⊥ = λ e. no-key (subst (λ (x : Check). OneOf (1 ∷ 2 ∷ 3 ∷ 4 ∷ 5 ∷ 6 ∷ []) (tagOf the-type x)) e (c .before .match .keys2)) in
+    c .refused .ensures ∙
+    ap (λ (b : Bool). cond b (soundTables k (a .terms .now) (a .literals .now)) (refusedTables k)) (sym (refused-number k n)) ∙
+    ap (λ (x : Check). read-by x (a .terms .now) (a .literals .now)) (c .before .before .check .ensures)
 
 pub read-spec : {M : Type 1} → statement M
 read-spec =
