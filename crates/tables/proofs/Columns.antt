@@ -1,26 +1,26 @@
 -- The arrays that sound tables are read into hold the terms and the literals, so what is marked and coloured in them is what is in use and colourable.
-use mathlib.Core.Bool.{Bool, true, false, cond, not, _&&_, _||_}
-use mathlib.Core.List.{List, [], _∷_, _++_, map, List·Memᴰ, List·Memᴰ·not-nil, Memᴰ·map, Memᴰ·of-map}
+use mathlib.Core.Bool.{Bool, false, cond, _||_}
+use mathlib.Core.List.{List, [], _∷_, List·Memᴰ, List·Memᴰ·not-nil, Memᴰ·map, Memᴰ·of-map}
 use mathlib.Core.Logic.{_⊎_, inl, inr, ⊎-elim}
 use mathlib.Core.Path.{_≡_, refl, sym, ap, ap₂, subst, _∙_}
-use Prim.Native.Nat.{ℕ, zero, suc, _+_, _≤_, _<_}
+use Prim.Native.Nat.{ℕ, _+_, _≤_, _<_}
 use native.Mathlib.Omega.{arith}
 use lib.Dec.{T, eqb, eqb→eq, eqb-refl}
 use lib.ListN.{length, getD, take}
 use Rattle.tables.specs.Words.{below, every, someBelow}
 use Rattle.tables.specs.Bytes.{byteAt, wordAt}
-use Rattle.tables.specs.Terms.{Term, termAt, noTerm, parts, symbols, Part}
+use Rattle.tables.specs.Terms.{Term, termAt, parts, symbols, Part}
 use Rattle.tables.specs.TermTable.{termCount, termRecord, symbolField, arityField, rowOf, termOf, termsOf}
-use Rattle.tables.specs.LiteralTable.{Side, A, B, sameSide, Literal, literalCount, literalRecord, literalOf, literalsOf}
+use Rattle.tables.specs.LiteralTable.{Side, A, B, Literal, literalCount, literalRecord, literalOf, literalsOf}
 use Rattle.tables.specs.Colours.{inUse, occursIn, colourable}
 use Rattle.tables.specs.Read.{filled, colourNumber, argumentRows}
-use Rattle.tables.specs.Marks.{argumentsIn, Marked, LowerRows, Describes, LiteralsWithin, StandsIn, Inside, sameSymbolInside, partsColour}
-use Rattle.tables.proofs.Words.{and-left, and-right, and-both, or-cases, or-left, or-right, same-test, below-or-not, below-mem, mem-below, every-all, all-every, every-map, someBelow-some, some-someBelow}
+use Rattle.tables.specs.Marks.{argumentsIn, Marked, LowerRows, Describes, LiteralsWithin, Inside, sameSymbolInside, partsColour}
+use Rattle.tables.proofs.Words.{and-left, and-right, and-both, or-cases, or-left, or-right, same-test, below-or-not, below-mem, mem-below, every-map, someBelow-some, some-someBelow}
 use Rattle.tables.proofs.Terms.{mem-part, part-le}
 use Rattle.tables.proofs.Colours.{PartOf, inUse-part, part-inUse, occurs-part, part-occurs}
 use Rattle.tables.proofs.Marks.{part-marked}
 use Rattle.tables.proofs.Filled.{filled-at, filled-behind, filled-past, filled-agree}
-use Rattle.tables.proofs.Sound.{SoundTables, SoundLiteral, length-termsOf, termAt-termsOf, termAt-past, length-row, arity-small, used-lower, lower-arguments, sound-literal, sides-within}
+use Rattle.tables.proofs.Sound.{SoundTables, length-termsOf, termAt-termsOf, termAt-past, length-row, arity-small, lower-arguments, sound-literal, sides-within}
 
 -- ---- the columns
 

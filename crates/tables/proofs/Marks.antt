@@ -1,19 +1,18 @@
 -- Laws of marking: what the turns of `mark` keep, and what is marked in the end.
-use mathlib.Core.Bool.{Bool, true, false, not, _&&_}
-use mathlib.Core.List.{List, [], _∷_, List·Memᴰ}
+use mathlib.Core.Bool.{Bool, true, false, not}
+use mathlib.Core.List.{List, [], List·Memᴰ}
 use mathlib.Core.Logic.{_⊎_, inl, inr, ⊎-elim}
 use mathlib.Core.Path.{_≡_, refl, sym, ap, subst, _∙_}
 use Prim.Native.Nat.{ℕ, zero, suc, _+_, _≤_, _<_}
 use native.Mathlib.Nat.{not-suc-le-zero}
-use native.Mathlib.Numerals.{add-one}
 use native.Mathlib.Omega.{arith}
 use lib.Dec.{T, eqb, eqb→eq, eqb-refl, T-not, not-T}
-use lib.ListN.{length, getD, take, set, replicate, length-set, length-replicate}
+use lib.ListN.{length, getD, set, replicate, length-set, length-replicate}
 use lib.Seq.{getD-set-same, getD-set-other, getD-take, length-take-le}
-use Rattle.tables.specs.Marks.{argumentsIn, Marked, LowerRows, Closed, Describes, MarkedUpTo, MarkedToo, StandsIn, Inside, markedAndMissing}
+use Rattle.tables.specs.Marks.{argumentsIn, Marked, LowerRows, Closed, Describes, MarkedToo, StandsIn, Inside, markedAndMissing}
 use Rattle.tables.specs.Words.{every, someBelow}
-use Rattle.tables.specs.Terms.{Term, termAt, parts, Part, itself, deeper, LowerArguments}
-use Rattle.tables.proofs.Words.{and-left, and-right, and-both, decide, passes, fails, by-test, same-test, getD-mem, mem-getD, below-or-is, every-all, all-every, someBelow-some, some-someBelow}
+use Rattle.tables.specs.Terms.{Term, parts, Part, itself, deeper, LowerArguments}
+use Rattle.tables.proofs.Words.{and-left, and-right, and-both, decide, passes, by-test, same-test, getD-mem, mem-getD, below-or-is, every-all, all-every, someBelow-some, some-someBelow}
 use Rattle.tables.proofs.Terms.{mem-part, part-mem, part-le}
 
 -- ---- one mark more
@@ -48,6 +47,14 @@ none-closed n rows arities u m a k = absurd (none-marked n u m)
 
 -- ---- rows
 
+-- the first j arguments of t and all their parts are marked too, and nothing else is
+pub record MarkedUpTo (rows : List (List ℕ)) (arities : List ℕ) (t j : ℕ) (before after : List Bool) : Type 0 where
+  pub sized : length after ≡ length before
+  pub closed : Closed rows arities after
+  pub reached : (i : ℕ) → i < j → Marked after (getD (getD rows t []) i 0)
+  pub kept : (u : ℕ) → Marked before u → Marked after u
+  pub only : (ts : List Term) → Describes rows arities ts → (u : ℕ) → Marked after u → Marked before u ⊎ Part ts u t
+
 module _ (rows : List (List ℕ)) (arities : List ℕ) (low : LowerRows rows arities) (t : ℕ) (small : t < 256) where
   -- a term has as many arguments as its arity says
   pub length-arguments : length (argumentsIn rows arities t) ≡ getD arities t 0
@@ -58,6 +65,10 @@ module _ (rows : List (List ℕ)) (arities : List ℕ) (low : LowerRows rows ari
   field-argument j h =
       subst (λ (a : ℕ). List·Memᴰ a (argumentsIn rows arities t)) (getD-take (getD arities t 0) (getD rows t []) j 0 h)
       (getD-mem (argumentsIn rows arities t) j 0 (omega (arith, length-arguments)))
+
+  -- so it is lower than t
+  pub field-lower : (j : ℕ) → j < getD arities t 0 → getD (getD rows t []) j 0 < t
+  field-lower j h = low .lower t small (getD (getD rows t []) j 0) (field-argument j h)
 
   -- an argument is a used field of the row
   pub argument-field : (a : ℕ) → List·Memᴰ a (argumentsIn rows arities t) → (j : ℕ) × (j < getD arities t 0) × (getD (getD rows t []) j 0 ≡ a)

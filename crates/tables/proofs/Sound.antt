@@ -1,16 +1,16 @@
 -- What the checks of rows 1 to 6 settle: where none refuses, the tables have the form that the layers above rest on.
-use mathlib.Core.Bool.{Bool, true, false, cond, not, _&&_, _||_}
-use mathlib.Core.List.{List, [], _∷_, _++_, map, List·Memᴰ, List·Memᴰ·not-nil, Memᴰ·of-map}
+use mathlib.Core.Bool.{Bool, true, false, not, _||_}
+use mathlib.Core.List.{List, List·Memᴰ, Memᴰ·of-map}
 use mathlib.Core.Logic.{_⊎_, inl, inr, ⊎-elim}
-use mathlib.Core.Option.{Option, some, none, Option·none-ne-some}
+use mathlib.Core.Option.{Option, some, none}
 use mathlib.Core.Path.{_≡_, refl, sym, ap, ap₂, subst, _∙_}
-use Prim.Native.Nat.{ℕ, zero, suc, _+_, _*_, _%_, _≤_, _<_}
+use Prim.Native.Nat.{ℕ, suc, _%_, _≤_, _<_}
 use native.Mathlib.Omega.{arith}
-use borrow.Author.Tests.{ltb-false, leb-false}
-use lib.Dec.{T, eqb, ltb, leb, eqb→eq, T-not, not-T, lt→ltb, le→leb}
+use borrow.Author.Tests.{ltb-false}
+use lib.Dec.{T, eqb, ltb, leb, eqb→eq, lt→ltb, le→leb}
 use lib.ListN.{length, getD, take, length-take}
 use lib.Seq.{getD-take}
-use Rattle.tables.specs.Words.{below, someBelow, firstBelow}
+use Rattle.tables.specs.Words.{below, someBelow}
 use Rattle.tables.specs.Bytes.{byteAt, wordAt}
 use Rattle.tables.specs.Terms.{Term, termAt, noTerm, LowerArguments}
 use Rattle.tables.specs.TermTable.{termCount, termRecord, arityField, argumentField, rowOf, arityWrong, spareWrong, notLower, unusedNotZero, breaksLayout, hadOtherArity, equalsEarlier, termOf, termsOf}
@@ -18,7 +18,7 @@ use Rattle.tables.specs.LiteralTable.{Literal, literalCount, literalReco
 use Rattle.tables.specs.Checks.{placeOf, lengthRow, countRow, layoutRow, arityRow, repeatedRow, literalRow, refuse, checked, numberOf}
 use Rattle.tables.specs.declared.Check.{Check}
 use Rattle.tables.specs.declared.Check.the-variants.{Sound, Length, Count, Layout, Arity, Repeated, Literal as Broken}
-use Rattle.tables.proofs.Words.{or-left, or-right, and-both, passes, fails, by-test, below-or-not, firstBelow-none, some-someBelow, mem-getD, below-mem}
+use Rattle.tables.proofs.Words.{or-left, or-right, and-both, passes, by-test, below-or-not, firstBelow-none, some-someBelow, mem-getD, below-mem}
 use Rattle.tables.proofs.Colours.{SidesWithin}
 use Rattle.tables.proofs.Filled.{length-map-below, map-below-at}
 

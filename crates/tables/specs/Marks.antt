@@ -1,6 +1,6 @@
 -- What the marking of terms works on: the arrays of rows and arities, and the marks.
-use mathlib.Core.Bool.{Bool, true, false, cond, not, _&&_}
-use mathlib.Core.List.{List, [], _∷_, List·Memᴰ}
+use mathlib.Core.Bool.{Bool, false, cond, not, _&&_}
+use mathlib.Core.List.{List, [], List·Memᴰ}
 use mathlib.Core.Logic.{_⊎_}
 use mathlib.Core.Path.{_≡_}
 use Prim.Native.Nat.{ℕ, _+_, _≤_, _<_}
@@ -37,14 +37,6 @@ pub record Markable (rows : List (List ℕ)) (arities : List ℕ) (marks : List 
 -- the rows and arities are those of the terms
 abbrev pub Describes : List (List ℕ) → List ℕ → List Term → Type 0
 Describes rows arities ts = (t : ℕ) → argumentsIn rows arities t ≡ termAt ts t .arguments
-
--- the first j arguments of t and all their parts are marked too, and nothing else is
-pub record MarkedUpTo (rows : List (List ℕ)) (arities : List ℕ) (t j : ℕ) (before after : List Bool) : Type 0 where
-  pub sized : length after ≡ length before
-  pub closed : Closed rows arities after
-  pub reached : (i : ℕ) → i < j → Marked after (getD (getD rows t []) i 0)
-  pub kept : (u : ℕ) → Marked before u → Marked after u
-  pub only : (ts : List Term) → Describes rows arities ts → (u : ℕ) → Marked after u → Marked before u ⊎ Part ts u t
 
 -- t and all its parts are marked too, and nothing else is
 pub record MarkedToo (rows : List (List ℕ)) (arities : List ℕ) (t : ℕ) (before after : List Bool) : Type 0 where

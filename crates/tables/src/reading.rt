@@ -5,7 +5,6 @@ use super::Tables;
 use super::colouring;
 use super::literal_table;
 use super::term_table;
-
 ghost use mathlib.Core.Path.{_≡_};
 ghost use Rattle.tables.specs.Checks.{checked};
 ghost use Rattle.tables.specs.Read.{soundTables, refusedTables};

@@ -1,3 +1,4 @@
+-- `read` meets its contract: the check is sound, or it has a number.
 use mathlib.Core.Bool.{Bool, cond}
 use mathlib.Core.List.{List, [], _∷_}
 use mathlib.Core.Logic.{⊎-elim}
@@ -7,6 +8,7 @@ use native.Mathlib.Omega.{arith}
 use lib.Dec.{eqb}
 use types.Run.{OneOf}
 use denote.Enum.Declared.{tagOf}
+use borrow.Author.Needs.{needs}
 use Rattle.tables.specs.Checks.{checked, numberOf}
 use Rattle.tables.specs.Read.{soundTables, refusedTables, tablesRead}
 use Rattle.tables.specs.declared.Tables.{Tables}
@@ -14,14 +16,8 @@ use Rattle.tables.specs.declared.Check.{Check}
 use Rattle.tables.specs.declared.Check.the-variants.{Sound}
 use Rattle.tables.proofs.Check.{the-type}
 use Rattle.tables.proofs.Sound.{refused-number}
-use borrow.Author.Needs.{needs}
 use Rattle.tables.proofs.read.Statement.{statement}
 use Rattle.tables.proofs.read.Tie as tie
-use Rattle.tables.proofs.read.Reads as reads
-use Rattle.tables.proofs.read.Lts as lts
-use Rattle.tables.proofs.checks.check.Reads as check-reads
-use Rattle.tables.proofs.reading.refused.Reads as refused-reads
-use Rattle.tables.proofs.reading.sound.Reads as sound-reads
 
 -- the tables by what the check says
 abbrev read-by : Check → List ℕ → List ℕ → Tables
@@ -45,14 +41,14 @@ refused-requires c κs = search needs
 
 returns : tie.Need-returns
 unfolding tablesRead numberOf
-returns c = 
+returns c =
     let a = c .before .before .before .before .before .before .args in
     let e : checked (a .terms .now) (a .literals .now) ≡ Sound = sym (c .before .before .before .check .ensures) ∙ c .before .enum-told .given .1 in
     c .sound .ensures ∙ ap (λ (k : Check). read-by k (a .terms .now) (a .literals .now)) (sym e)
 
 returns-2 : tie.Need-returns-2
 unfolding tablesRead
-returns-2 c = 
+returns-2 c =
     let a = c .before .before .before .before .before .args in
     let k = c .before .before .check .result in
     let n : k ≡ Sound → ⊥ = λ e. no-key (subst (λ (x : Check). OneOf (1 ∷ 2 ∷ 3 ∷ 4 ∷ 5 ∷ 6 ∷ []) (tagOf the-type x)) e (c .before .match .keys2)) in

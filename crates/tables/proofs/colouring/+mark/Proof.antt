@@ -1,15 +1,12 @@
-use mathlib.Core.Path.{_≡_, refl, sym, subst, _∙_}
-use Prim.Native.Nat.{_≤_, _-_}
+-- `mark` meets its contract. The measure is the term number: arguments are lower. The loop keeps that the first j arguments and their parts are marked.
+use mathlib.Core.Path.{_≡_, refl, subst, _∙_}
+use Prim.Native.Nat.{_≤_, _-_, ℕ, _<_}
 use lib.ListN.{getD}
-use mathlib.Core.List.{[]}
 use native.Mathlib.Omega.{arith}
-use borrow.Author.Needs.{needs}
-use Rattle.tables.specs.Marks.{Marked, LowerRows, MarkedUpTo}
-use Rattle.tables.proofs.Words.{passes}
-use Rattle.tables.proofs.Marks.{field-argument, up-none, up-more, up-all, already}
-use Prim.Native.Nat.{ℕ, _<_}
 use borrow.Fn.Kinds.{In}
 use borrow.Fn.PlainCycle.{Measures, is, falls, and}
+use Rattle.tables.proofs.Words.{passes}
+use Rattle.tables.proofs.Marks.{MarkedUpTo, field-lower, up-none, up-more, up-all, already}
 use Rattle.tables.proofs.colouring.mark.Reads as mark
 use Rattle.tables.proofs.colouring.mark.Kinds as mark-kinds
 use Rattle.tables.proofs.colouring.+mark.Lts-mark as mark-lts
@@ -126,12 +123,11 @@ mark-cast-mark :
     mark.Post
     mark-Inv-loop
     mark-μ-loop
-mark-cast-mark t c = 
+mark-cast-mark t c =
     let p = c .before .before .before .before .before .before .before .pre .1 in
     let t₀ = c .before .before .before .before .before .before .before .args .t in
     let j = c .before .before .before .loop .j in
-    let m = field-argument (c .before .before .before .before .before .before .before .args .rows .now) (c .before .before .before .before .before .before .before .args .arities .now) (p .low) t₀ (p .within) j (omega arith) in
-    let l = p .low .lower t₀ (p .within) (getD (getD (c .before .before .before .before .before .before .before .args .rows .now) t₀ []) j 0) m in
+    let l = field-lower (c .before .before .before .before .before .before .before .args .rows .now) (c .before .before .before .before .before .before .before .args .arities .now) (p .low) t₀ (p .within) j (omega arith) in
     omega (arith, l, p .within)
 
 mark-mark-requires :
@@ -142,13 +138,11 @@ mark-mark-requires :
     mark.Post
     mark-Inv-loop
     mark-μ-loop
-mark-mark-requires t c κs = 
+mark-mark-requires t c κs =
     let p = c .before .before .before .before .before .before .before .pre .1 in
     let t₀ = c .before .before .before .before .before .before .before .args .t in
     let j = c .before .before .before .loop .j in
-    let m = field-argument (c .before .before .before .before .before .before .before .args .rows .now) (c .before .before .before .before .before .before .before .args .arities .now) (p .low) t₀ (p .within) j (omega arith) in
-    let l = p .low .lower t₀ (p .within) (getD (getD (c .before .before .before .before .before .before .before .args .rows .now) t₀ []) j 0) m in
-    (
+    let l = field-lower (c .before .before .before .before .before .before .before .args .rows .now) (c .before .before .before .before .before .before .before .args .arities .now) (p .low) t₀ (p .within) j (omega arith) in (
       omega (arith, l, c .before .before .before .before .before .before .before .pre .0),
       record { within = omega (arith, l, p .within); sized = c .before .before .before .loop .inv .2 .sized ∙ p .sized; low = p .low; closed = c .before .before .before .loop .inv .2 .closed },
     )
@@ -176,7 +170,7 @@ mark-loop-again :
     mark.Post
     mark-Inv-loop
     mark-μ-loop
-mark-loop-again t c = 
+mark-loop-again t c =
     let p = c .before .before .before .before .before .before .before .before .pre .1 in
     let a = c .before .before .before .before .before .before .before .before .args in
     (refl, omega arith, up-more (a .rows .now) (a .arities .now) (p .low) (a .t) (p .within) (c .before .before .before .before .loop .j) (a .marks .now) (c .before .before .before .before .loop .marks) (c .mark .last .1 .1 .0) (omega arith) (c .before .before .before .before .loop .inv .2) (c .mark .ensures))
@@ -199,7 +193,7 @@ mark-returns-2 :
     mark.Post
     mark-Inv-loop
     mark-μ-loop
-mark-returns-2 t c = 
+mark-returns-2 t c =
     let p = c .before .before .before .before .before .pre .1 in
     let a = c .before .before .before .before .before .args in
     let i = c .before .loop .inv in

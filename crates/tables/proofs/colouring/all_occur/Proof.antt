@@ -1,15 +1,14 @@
+-- `all_occur` meets its contract: no term passed is marked and lacks an occurring symbol.
 use mathlib.Core.Bool.{Bool, false, not, _&&_}
 use mathlib.Core.Logic.{⊎-elim}
-use mathlib.Core.Path.{refl, sym, ap, ap₂}
+use mathlib.Core.Path.{_≡_, refl, ap, ap₂}
 use lib.ListN.{getD}
+use Prim.Native.Nat.{_-_}
+use native.Mathlib.Omega.{arith}
 use Rattle.tables.specs.Marks.{markedAndMissing}
 use Rattle.tables.proofs.Records.{NoneYet, none-yet, some-passed, none-more, none-passed}
-use Prim.Native.Nat.{ℕ, _-_}
-use native.Mathlib.Omega.{arith}
 use Rattle.tables.proofs.colouring.all_occur.Statement.{statement}
 use Rattle.tables.proofs.colouring.all_occur.Tie as tie
-use Rattle.tables.proofs.colouring.all_occur.Reads as reads
-use Rattle.tables.proofs.colouring.all_occur.Lts as lts
 
 abbrev Inv-loop : tie.InvT-loop
 Inv-loop marks occurring terms u₀ u = NoneYet (markedAndMissing marks occurring) terms u
@@ -36,10 +35,7 @@ loop-less : tie.Need-loop-less Inv-loop μ-loop
 loop-less c = omega arith
 
 loop-again : tie.Need-loop-again Inv-loop μ-loop
-loop-again c = 
-    let a = c .before .before .before .before .args in
-    let u = c .before .before .before .loop .u in
-    none-more _ _ _ _ (c .before .before .before .loop .inv) (c .before .before .loop-test .taken) refl (⊎-elim (λ w. ap₂ (λ (x y : Bool). x && y) (w .0 .taken) (w .2 .left)) (λ w. ap (λ (x : Bool). x && not (getD (a .occurring .now) u false)) (w .left)) (c .if1 .came))
+loop-again c = none-more _ _ _ _ (c .before .before .before .loop .inv) (c .before .before .loop-test .taken) refl (⊎-elim {C = markedAndMissing (c .before .before .before .before .args .marks .now) (c .before .before .before .before .args .occurring .now) (c .before .before .before .loop .u) ≡ false} (λ w. ap₂ (λ (x y : Bool). x && y) (w .0 .taken) (w .2 .left)) (λ w. ap (λ (x : Bool). x && not (getD (c .before .before .before .before .args .occurring .now) (c .before .before .before .loop .u) false)) (w .left)) (c .if1 .came))
 
 returns-2 : tie.Need-returns-2 Inv-loop μ-loop
 returns-2 c = ap not (none-passed _ _ _ (c .before .loop .inv) (c .loop-test .left))

@@ -1,10 +1,9 @@
+-- `colour_number` meets its contract, by the two tests.
 use mathlib.Core.Bool.{Bool, cond}
 use mathlib.Core.Path.{sym, ap₂}
 use Prim.Native.Nat.{_+_}
 use Rattle.tables.proofs.colouring.colour_number.Statement.{statement}
 use Rattle.tables.proofs.colouring.colour_number.Tie as tie
-use Rattle.tables.proofs.colouring.colour_number.Reads as reads
-use Rattle.tables.proofs.colouring.colour_number.Lts as lts
 
 returns : tie.Need-returns
 returns c = sym (ap₂ (λ (x y : Bool). cond x 1 0 + cond y 2 0) (c .before .if1 .taken) (c .if2 .taken))

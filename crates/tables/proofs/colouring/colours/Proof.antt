@@ -1,19 +1,17 @@
+-- `colours` meets its contract: the entries passed are filled, for whatever terms the rows describe.
 use mathlib.Core.List.{List}
 use mathlib.Core.Path.{_≡_}
 use lib.ListN.{length}
+use Prim.Native.Nat.{_-_}
+use native.Mathlib.Omega.{arith}
 use Rattle.tables.specs.Terms.{Term}
 use Rattle.tables.specs.Marks.{Describes, partsColour}
 use Rattle.tables.proofs.Records.{Filling, filling-none, filling-more, filling-all}
-use Prim.Native.Nat.{ℕ, _-_}
-use native.Mathlib.Omega.{arith}
 use Rattle.tables.proofs.colouring.colours.Statement.{statement}
 use Rattle.tables.proofs.colouring.colours.Tie as tie
-use Rattle.tables.proofs.colouring.colours.Reads as reads
-use Rattle.tables.proofs.colouring.colours.Lts as lts
-use Rattle.tables.proofs.colouring.colour.Reads as colour-reads
 
 abbrev Inv-loop : tie.InvT-loop
-Inv-loop rows arities in-a in-b terms column₀ t₀ column t = 
+Inv-loop rows arities in-a in-b terms column₀ t₀ column t =
     (ts : List Term) → Describes rows arities ts → length ts ≡ terms → Filling 256 0 (partsColour in-a in-b ts) terms t column
 
 abbrev μ-loop : tie.MeasureT-loop

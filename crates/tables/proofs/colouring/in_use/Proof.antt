@@ -1,14 +1,13 @@
+-- `in_use` meets its contract: the entries passed are filled.
 use mathlib.Core.Bool.{Bool, false, _||_}
 use mathlib.Core.Logic.{⊎-elim}
 use mathlib.Core.Path.{_≡_, sym, ap, _∙_}
 use lib.ListN.{getD}
-use Rattle.tables.proofs.Records.{Filling, filling-none, filling-more, filling-all}
-use Prim.Native.Nat.{ℕ, _-_}
+use Prim.Native.Nat.{_-_}
 use native.Mathlib.Omega.{arith}
+use Rattle.tables.proofs.Records.{Filling, filling-none, filling-more, filling-all}
 use Rattle.tables.proofs.colouring.in_use.Statement.{statement}
 use Rattle.tables.proofs.colouring.in_use.Tie as tie
-use Rattle.tables.proofs.colouring.in_use.Reads as reads
-use Rattle.tables.proofs.colouring.in_use.Lts as lts
 
 abbrev Inv-loop : tie.InvT-loop
 Inv-loop a b terms column₀ t₀ column t = Filling 256 false (λ u. getD a u false || getD b u false) terms t column
@@ -35,7 +34,7 @@ loop-less : tie.Need-loop-less Inv-loop μ-loop
 loop-less c = omega arith
 
 loop-again : tie.Need-loop-again Inv-loop μ-loop
-loop-again c = 
+loop-again c =
     let a = c .before .before .before .before .args in
     let i = c .before .before .before .loop in
     let q : c .if1 .column ≡ (getD (a .a .now) (i .t) false || getD (a .b .now) (i .t) false) = ⊎-elim (λ w. w .1 ∙ w .0 .taken ∙ ap (λ (x : Bool). x || getD (a .b .now) (i .t) false) (sym (w .0 .taken))) (λ w. w .2 ∙ ap (λ (x : Bool). x || getD (a .b .now) (i .t) false) (sym (w .0 .left))) (c .if1 .came) in

@@ -1,19 +1,14 @@
-use mathlib.Core.Bool.{Bool, false}
+-- `inside` meets its contract: the loop keeps that the literals passed are marked, with all their parts, and nothing else.
+use mathlib.Core.Bool.{Bool}
 use mathlib.Core.List.{List}
-use Prim.Native.Nat.{_+_}
-use lib.ListN.{replicate, length-replicate}
-use mathlib.Core.Path.{_≡_, refl, sym, ap, subst, _∙_}
+use Prim.Native.Nat.{_+_, _≤_, _-_}
+use mathlib.Core.Path.{_≡_, sym, subst, _∙_}
 use mathlib.Core.Logic.{⊎-elim}
-use Prim.Native.Nat.{ℕ, _≤_, _-_}
 use native.Mathlib.Omega.{arith}
-use borrow.Author.Needs.{needs}
 use Rattle.tables.specs.Marks.{Inside}
 use Rattle.tables.proofs.Marks.{inside-none, inside-more, inside-same}
 use Rattle.tables.proofs.colouring.inside.Statement.{statement}
 use Rattle.tables.proofs.colouring.inside.Tie as tie
-use Rattle.tables.proofs.colouring.inside.Reads as reads
-use Rattle.tables.proofs.colouring.inside.Lts as lts
-use Rattle.tables.proofs.colouring.mark.Reads as mark-reads
 
 abbrev Inv-loop : tie.InvT-loop
 Inv-loop rows arities sides lefts rights literals side marks₀ k₀ marks k = (k ≤ literals) × Inside rows arities sides lefts rights side k marks
@@ -37,7 +32,7 @@ cast-mark : tie.Need-cast-mark Inv-loop μ-loop
 cast-mark c = omega (arith, c .before .before .before .before .before .before .pre .1 .left (c .before .before .before .before .before .loop .k) (c .before .before .before .before .loop-test .taken))
 
 mark-requires : tie.Need-mark-requires Inv-loop μ-loop
-mark-requires c κs = 
+mark-requires c κs =
     let i = c .before .before .before .before .before .loop .inv .1 in
     record { within = c .before .before .before .before .before .before .pre .1 .left (c .before .before .before .before .before .loop .k) (c .before .before .before .before .loop-test .taken); sized = i .sized; low = c .before .before .before .before .before .before .pre .0; closed = i .closed }
 
@@ -51,7 +46,7 @@ cast-mark-2 : tie.Need-cast-mark-2 Inv-loop μ-loop
 cast-mark-2 c = omega (arith, c .before .before .before .before .before .before .before .before .before .pre .1 .right (c .before .before .before .before .before .before .before .before .loop .k) (c .before .before .before .before .before .before .before .loop-test .taken))
 
 mark-requires-2 : tie.Need-mark-requires-2 Inv-loop μ-loop
-mark-requires-2 c κs = 
+mark-requires-2 c κs =
     let i = c .before .before .before .before .before .before .before .before .loop .inv .1 in
     let m = c .before .before .mark .ensures in
     record { within = c .before .before .before .before .before .before .before .before .before .pre .1 .right (c .before .before .before .before .before .before .before .before .loop .k) (c .before .before .before .before .before .before .before .loop-test .taken); sized = m .sized ∙ i .sized; low = c .before .before .before .before .before .before .before .before .before .pre .0; closed = m .closed }
@@ -63,20 +58,20 @@ loop-less : tie.Need-loop-less Inv-loop μ-loop
 loop-less c = omega arith
 
 loop-again : tie.Need-loop-again Inv-loop μ-loop
-loop-again c = 
+loop-again c =
     let a = c .before .before .before .before .args in
     let k = c .before .before .before .loop .k in
     let i = c .before .before .before .loop .inv .1 in
     let is : List Bool → Type 0 = Inside (a .rows .now) (a .arities .now) (a .sides .now) (a .lefts .now) (a .rights .now) (a .side) (k + 1) in (
       omega arith,
       ⊎-elim
-      (λ w. subst is (sym (w .7)) (inside-more (a .rows .now) (a .arities .now) (a .sides .now) (a .lefts .now) (a .rights .now) (a .side) k (c .before .before .before .loop .marks) (w .3 .last .1 .1 .0) (w .6 .last .1 .1 .0) (w .0 .taken) i (w .3 .ensures) (w .6 .ensures)))
-      (λ w. subst is (sym (w .1)) (inside-same (a .rows .now) (a .arities .now) (a .sides .now) (a .lefts .now) (a .rights .now) (a .side) k (c .before .before .before .loop .marks) (w .0 .left) i))
-      (c .if1 .came),
+          (λ w. subst is (sym (w .7)) (inside-more (a .rows .now) (a .arities .now) (a .sides .now) (a .lefts .now) (a .rights .now) (a .side) k (c .before .before .before .loop .marks) (w .3 .last .1 .1 .0) (w .6 .last .1 .1 .0) (w .0 .taken) i (w .3 .ensures) (w .6 .ensures)))
+          (λ w. subst is (sym (w .1)) (inside-same (a .rows .now) (a .arities .now) (a .sides .now) (a .lefts .now) (a .rights .now) (a .side) k (c .before .before .before .loop .marks) (w .0 .left) i))
+          (c .if1 .came),
     )
 
 returns : tie.Need-returns Inv-loop μ-loop
-returns c = 
+returns c =
     let a = c .before .before .args in
     let e : c .before .loop .k ≡ a .literals = omega arith in
     subst (λ n. Inside (a .rows .now) (a .arities .now) (a .sides .now) (a .lefts .now) (a .rights .now) (a .side) n (c .before .loop .marks)) e (c .before .loop .inv .1)

@@ -1,14 +1,12 @@
+-- `occurring` meets its contract: the entries passed are filled.
 use mathlib.Core.Bool.{false}
+use Prim.Native.Nat.{_-_}
+use native.Mathlib.Omega.{arith}
 use Rattle.tables.specs.Words.{someBelow}
 use Rattle.tables.specs.Marks.{sameSymbolInside}
 use Rattle.tables.proofs.Records.{Filling, filling-none, filling-more, filling-all}
-use Prim.Native.Nat.{ℕ, _-_}
-use native.Mathlib.Omega.{arith}
 use Rattle.tables.proofs.colouring.occurring.Statement.{statement}
 use Rattle.tables.proofs.colouring.occurring.Tie as tie
-use Rattle.tables.proofs.colouring.occurring.Reads as reads
-use Rattle.tables.proofs.colouring.occurring.Lts as lts
-use Rattle.tables.proofs.colouring.occurs.Reads as occurs-reads
 
 abbrev Inv-loop : tie.InvT-loop
 Inv-loop symbols inside terms column₀ t₀ column t = Filling 256 false (λ u. someBelow (sameSymbolInside symbols inside u) terms) terms t column

@@ -1,16 +1,15 @@
+-- `occurs` meets its contract: no term passed is inside and has the symbol.
 use mathlib.Core.Bool.{Bool, false, _&&_}
 use mathlib.Core.Logic.{⊎-elim}
 use mathlib.Core.Path.{_≡_, refl, ap, ap₂}
 use lib.Dec.{eqb}
 use lib.ListN.{getD}
+use Prim.Native.Nat.{_-_}
+use native.Mathlib.Omega.{arith}
 use Rattle.tables.specs.Marks.{sameSymbolInside}
 use Rattle.tables.proofs.Records.{NoneYet, none-yet, some-passed, none-more, none-passed}
-use Prim.Native.Nat.{ℕ, _-_}
-use native.Mathlib.Omega.{arith}
 use Rattle.tables.proofs.colouring.occurs.Statement.{statement}
 use Rattle.tables.proofs.colouring.occurs.Tie as tie
-use Rattle.tables.proofs.colouring.occurs.Reads as reads
-use Rattle.tables.proofs.colouring.occurs.Lts as lts
 
 abbrev Inv-loop : tie.InvT-loop
 Inv-loop symbols inside terms t symbol u₀ u = (symbol ≡ getD symbols t 0) × NoneYet (sameSymbolInside symbols inside t) terms u
@@ -46,12 +45,7 @@ loop-less : tie.Need-loop-less Inv-loop μ-loop
 loop-less c = omega arith
 
 loop-again : tie.Need-loop-again Inv-loop μ-loop
-loop-again c = 
-    let a = c .before .before .before .before .before .args in
-    let u = c .before .before .before .loop .u in (
-      refl,
-      none-more _ _ _ _ (c .before .before .before .loop .inv .1) (c .before .before .loop-test .taken) refl (⊎-elim (λ w. ap₂ (λ (x y : Bool). x && y) (w .0 .taken) (w .2 .left)) (λ w. ap (λ (x : Bool). x && eqb (getD (a .symbols .now) u 0) (getD (a .symbols .now) (a .t) 0)) (w .left)) (c .if1 .came)),
-    )
+loop-again c = (refl, none-more _ _ _ _ (c .before .before .before .loop .inv .1) (c .before .before .loop-test .taken) refl (⊎-elim {C = sameSymbolInside (c .before .before .before .before .before .args .symbols .now) (c .before .before .before .before .before .args .inside .now) (c .before .before .before .before .before .args .t) (c .before .before .before .loop .u) ≡ false} (λ w. ap₂ (λ (x y : Bool). x && y) (w .0 .taken) (w .2 .left)) (λ w. ap (λ (x : Bool). x && eqb (getD (c .before .before .before .before .before .args .symbols .now) (c .before .before .before .loop .u) 0) (getD (c .before .before .before .before .before .args .symbols .now) (c .before .before .before .before .before .args .t) 0)) (w .left)) (c .if1 .came)))
 
 returns-2 : tie.Need-returns-2 Inv-loop μ-loop
 returns-2 c = none-passed _ _ _ (c .before .loop .inv .1) (c .loop-test .left)

@@ -1,9 +1,8 @@
+-- `refused` meets its contract as it stands.
 use mathlib.Core.Path.{refl}
 use Rattle.tables.specs.Read.{refusedTables}
 use Rattle.tables.proofs.reading.refused.Statement.{statement}
 use Rattle.tables.proofs.reading.refused.Tie as tie
-use Rattle.tables.proofs.reading.refused.Reads as reads
-use Rattle.tables.proofs.reading.refused.Lts as lts
 
 returns : tie.Need-returns
 unfolding refusedTables

@@ -1,24 +1,13 @@
-use mathlib.Core.Path.{_≡_}
+-- `sound` meets its contract: the arrays hold the columns of sound tables, so the marks and colours are those of the definitions.
 use Prim.Native.Nat.{_/_}
 use lib.ListN.{length}
+use borrow.Author.Needs.{needs}
 use Rattle.tables.specs.Read.{soundTables}
 use Rattle.tables.specs.declared.Check.the-variants.{Sound}
 use Rattle.tables.proofs.Sound.{sound}
 use Rattle.tables.proofs.Columns.{Columns, columns-lower, columns-within, columns-used, columns-colours}
-use borrow.Author.Needs.{needs}
 use Rattle.tables.proofs.reading.sound.Statement.{statement}
 use Rattle.tables.proofs.reading.sound.Tie as tie
-use Rattle.tables.proofs.reading.sound.Reads as reads
-use Rattle.tables.proofs.reading.sound.Lts as lts
-use Rattle.tables.proofs.colouring.colours.Reads as colours-reads
-use Rattle.tables.proofs.colouring.in_use.Reads as in-use-reads
-use Rattle.tables.proofs.colouring.inside.Reads as inside-reads
-use Rattle.tables.proofs.colouring.occurring.Reads as occurring-reads
-use Rattle.tables.proofs.literal_table.literal_bytes.Reads as literal-bytes-reads
-use Rattle.tables.proofs.literal_table.literal_words.Reads as literal-words-reads
-use Rattle.tables.proofs.term_table.rows.Reads as rows-reads
-use Rattle.tables.proofs.term_table.term_bytes.Reads as term-bytes-reads
-use Rattle.tables.proofs.term_table.term_words.Reads as term-words-reads
 
 -- the arrays that were read, up to the right sides, hold the columns
 known : (c : tie.After-literal-words2) → Columns (c .before .before .before .before .before .before .before .before .before .args .terms .now) (c .before .before .before .before .before .before .before .before .before .args .literals .now) (c .before .before .before .before .before .before .term-words .result) (c .before .before .before .before .before .term-bytes .result) (c .before .before .before .before .rows .result) (c .before .before .before .literal-bytes .result) (c .before .literal-words .result) (c .literal-words2 .result)
@@ -74,7 +63,7 @@ colours-requires c κs = (columns-lower (c .before .before .before .before .befo
 
 returns : tie.Need-returns
 unfolding soundTables
-returns c = 
+returns c =
     let used = columns-used (c .before .before .before .before .before .before .before .before .before .before .before .before .before .before .before .before .before .before .before .before .before .before .before .before .before .before .before .before .before .before .before .before .before .before .before .args .terms .now) (c .before .before .before .before .before .before .before .before .before .before .before .before .before .before .before .before .before .before .before .before .before .before .before .before .before .before .before .before .before .before .before .before .before .before .before .args .literals .now) (c .before .before .before .before .before .before .before .before .before .before .before .before .before .before .before .before .before .before .before .before .before .before .before .before .before .before .before .before .before .before .before .before .term-words .result) (c .before .before .before .before .before .before .before .before .before .before .before .before .before .before .before .before .before .before .before .before .before .before .before .before .before .before .before .before .before .before .before .term-bytes .result) (c .before .before .before .before .before .before .before .before .before .before .before .before .before .before .before .before .before .before .before .before .before .before .before .before .before .before .before .before .before .before .rows .result) (c .before .before .before .before .before .before .before .before .before .before .before .before .before .before .before .before .before .before .before .before .before .before .before .before .before .before .before .before .before .literal-bytes .result) (c .before .before .before .before .before .before .before .before .before .before .before .before .before .before .before .before .before .before .before .before .before .before .before .before .before .before .before .literal-words .result) (c .before .before .before .before .before .before .before .before .before .before .before .before .before .before .before .before .before .before .before .before .before .before .before .before .before .before .literal-words2 .result) (known (c .before .before .before .before .before .before .before .before .before .before .before .before .before .before .before .before .before .before .before .before .before .before .before .before .before .before)) (c .before .before .before .before .before .before .before .before .before .before .before .before .before .before .before .before .before .before .before .before .inside .result) (c .before .before .before .before .before .before .before .before .before .before .before .before .before .before .inside2 .result) (c .before .before .before .before .before .before .before .before .before .before .before .before .before .before .before .before .before .before .before .before .inside .ensures) (c .before .before .before .before .before .before .before .before .before .before .before .before .before .before .inside2 .ensures) (c .before .before .before .before .before .before .before .before .before .before .before .in-use .result) (c .before .before .before .before .before .before .before .before .before .before .before .in-use .ensures) in
     let colours = columns-colours (c .before .before .before .before .before .before .before .before .before .before .before .before .before .before .before .before .before .before .before .before .before .before .before .before .before .before .before .before .before .before .before .before .before .before .before .args .terms .now) (c .before .before .before .before .before .before .before .before .before .before .before .before .before .before .before .before .before .before .before .before .before .before .before .before .before .before .before .before .before .before .before .before .before .before .before .args .literals .now) (c .before .before .before .before .before .before .before .before .before .before .before .before .before .before .before .before .before .before .before .before .before .before .before .before .before .before .before .before .before .before .before .before .term-words .result) (c .before .before .before .before .before .before .before .before .before .before .before .before .before .before .before .before .before .before .before .before .before .before .before .before .before .before .before .before .before .before .before .term-bytes .result) (c .before .before .before .before .before .before .before .before .before .before .before .before .before .before .before .before .before .before .before .before .before .before .before .before .before .before .before .before .before .before .rows .result) (c .before .before .before .before .before .before .before .before .before .before .before .before .before .before .before .before .before .before .before .before .before .before .before .before .before .before .before .before .before .literal-bytes .result) (c .before .before .before .before .before .before .before .before .before .before .before .before .before .before .before .before .before .before .before .before .before .before .before .before .before .before .before .literal-words .result) (c .before .before .before .before .before .before .before .before .before .before .before .before .before .before .before .before .before .before .before .before .before .before .before .before .before .before .literal-words2 .result) (known (c .before .before .before .before .before .before .before .before .before .before .before .before .before .before .before .before .before .before .before .before .before .before .before .before .before .before)) (c .before .before .before .before .before .before .before .before .before .before .before .before .before .before .before .before .before .before .before .before .inside .result) (c .before .before .before .before .before .before .before .before .before .before .before .before .before .before .inside2 .result) (c .before .before .before .before .before .before .before .before .before .before .before .before .before .before .before .before .before .before .before .before .inside .ensures) (c .before .before .before .before .before .before .before .before .before .before .before .before .before .before .inside2 .ensures) (c .before .before .before .before .before .before .before .before .occurring .result) (c .before .before .before .before .before .occurring2 .result) (c .colours .result) (c .before .before .before .before .before .before .before .before .occurring .ensures) (c .before .before .before .before .before .occurring2 .ensures) (c .colours .ensures) in
     λ i.
