@@ -204,15 +204,15 @@ none-is p n = (firstBelow-none p n, none-firstBelow p n)
 
 module _ (ts ls : List ℕ) where
   -- the rows from each on
-  abbrev from6 : Check
+  abbrev pub from6 : Check
   from6 = refuse Literal (literalRow ts ls) Sound
-  abbrev from5 : Check
+  abbrev pub from5 : Check
   from5 = refuse Repeated (repeatedRow ts) from6
-  abbrev from4 : Check
+  abbrev pub from4 : Check
   from4 = refuse Arity (arityRow ts) from5
-  abbrev from3 : Check
+  abbrev pub from3 : Check
   from3 = refuse Layout (layoutRow ts) from4
-  abbrev from2 : Check
+  abbrev pub from2 : Check
   from2 = refuse Count (countRow ts ls) from3
 
   after6 : After 6 Sound

@@ -28,22 +28,7 @@ fn spare_wrong(r: &[u8]) -> bool
     requires { ⌜ length (now r) ≡ 16 ⌝ }
     ensures { λ b. ⌜ b ≡ spareWrong (now (r .entry)) ⌝ }
 {
-    if r[3] != 0 {
-        return true;
-    }
-    if r[12] != 0 {
-        return true;
-    }
-    if r[13] != 0 {
-        return true;
-    }
-    if r[14] != 0 {
-        return true;
-    }
-    if r[15] != 0 {
-        return true;
-    }
-    false
+    (r[3] != 0) | (r[12] != 0) | (r[13] != 0) | (r[14] != 0) | (r[15] != 0)
 }
 
 // An argument within the arity has to be lower than the record's own number, one past it zero.
@@ -53,7 +38,7 @@ fn argument_wrong(r: &[u8], k: usize, j: usize) -> bool
 {
     let arity = r[2] as usize;
     let argument = bytes::word_at(r, 4 + 2 * j) as usize;
-    if j < arity { k <= argument } else { argument != 0 }
+    ((j < arity) & (k <= argument)) | ((arity <= j) & (argument != 0))
 }
 
 // The four argument fields, up to the first wrong one.
@@ -77,13 +62,7 @@ fn breaks_layout(terms: &[u8], k: usize) -> bool
     ensures { λ b. ⌜ b ≡ breaksLayout (now (terms .entry)) k ⌝ }
 {
     let r = term_record(terms, k);
-    if r[2] > 4 {
-        return true;
-    }
-    if spare_wrong(r) {
-        return true;
-    }
-    arguments_wrong(r, k)
+    (r[2] > 4) | spare_wrong(r) | arguments_wrong(r, k)
 }
 
 // Whether record k has the symbol of record j and another arity.
@@ -93,7 +72,7 @@ fn other_arity(terms: &[u8], k: usize, j: usize) -> bool
 {
     let earlier = term_record(terms, j);
     let own = term_record(terms, k);
-    bytes::word_at(earlier, 0) == bytes::word_at(own, 0) && earlier[2] != own[2]
+    (bytes::word_at(earlier, 0) == bytes::word_at(own, 0)) & (earlier[2] != own[2])
 }
 
 // Row 4: "a symbol had another arity in an earlier record".

@@ -1,6 +1,4 @@
-use mathlib.Core.Bool.{or-false}
 use native.Mathlib.Omega.{arith}
-use borrow.Author.Tests.{lt-ltb, le-ltb, le-leb, lt-leb}
 use Rattle.tables.specs.TermTable.{notLower, unusedNotZero}
 use borrow.Author.Needs.{needs}
 use Rattle.tables.proofs.term_table.argument_wrong.Statement.{statement}
@@ -29,11 +27,7 @@ cast-argument c = search needs
 
 returns : tie.Need-returns
 unfolding notLower unusedNotZero
-returns c = rw (c .before .word-at .ensures) (simp (lt-ltb _ _ (c .if1 .taken), lt-leb _ _ (c .if1 .taken), or-false))
-
-returns-2 : tie.Need-returns-2
-unfolding notLower unusedNotZero
-returns-2 c = rw (c .before .word-at .ensures) (simp (le-ltb _ _ (c .if1 .left), le-leb _ _ (c .if1 .left)))
+returns c = cc
 
 pub argument-wrong-spec : {M : Type 1} → statement M
 argument-wrong-spec =
@@ -45,5 +39,4 @@ argument-wrong-spec =
     add-word-at
     word-at-requires
     cast-argument
-    returns
-    returns-2)
+    returns)
