@@ -1,8 +1,8 @@
 // The two tables of document 01: any bytes in; the refusals 1 to 6 with their place, or the tables read.
 
-pub mod bytes;
+mod bytes;
 pub mod checks;
-pub mod literal_table;
+mod literal_table;
 pub mod term_table;
 
 // What the checks of rows 1 to 6 say: sound, or the row that refuses, with its place.

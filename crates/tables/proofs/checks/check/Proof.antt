@@ -1,24 +1,17 @@
+-- `tables::checks::check` meets its contract. A row that found nothing leaves the answer to the rows after it; the first that found a place gives it.
 use mathlib.Core.Option.{Option, some, none}
 use mathlib.Core.Path.{_≡_, sym, ap, _∙_}
 use mathlib.Core.List.{List}
 use Prim.Native.Nat.{ℕ}
+use borrow.Author.Needs.{needs}
 use Rattle.tables.specs.Checks.{foundOf, literalRow, checked}
 use Rattle.tables.specs.declared.Found.{Found}
 use Rattle.tables.specs.declared.Found.the-variants.{At, Nothing}
 use Rattle.tables.specs.declared.Check.{Check}
 use Rattle.tables.specs.declared.Check.the-variants.{Sound, Length, Count, Layout, Arity, Repeated, Literal}
 use Rattle.tables.proofs.Rows.{refuse-at, refuse-next, from2, from3, from4, from5, from6}
-use borrow.Author.Needs.{needs}
 use Rattle.tables.proofs.checks.check.Statement.{statement}
 use Rattle.tables.proofs.checks.check.Tie as tie
-use Rattle.tables.proofs.checks.check.Reads as reads
-use Rattle.tables.proofs.checks.check.Lts as lts
-use Rattle.tables.proofs.checks.count_row.Reads as count-row-reads
-use Rattle.tables.proofs.checks.length_row.Reads as length-row-reads
-use Rattle.tables.proofs.literal_table.literal_row.Reads as literal-row-reads
-use Rattle.tables.proofs.term_table.arity_row.Reads as arity-row-reads
-use Rattle.tables.proofs.term_table.layout_row.Reads as layout-row-reads
-use Rattle.tables.proofs.term_table.repeated_row.Reads as repeated-row-reads
 
 -- what a row found, as the place that its definition names
 found-at : (r : Found) (o : Option ℕ) (place : ℕ) → foundOf r ≡ o → r ≡ At place → o ≡ some place

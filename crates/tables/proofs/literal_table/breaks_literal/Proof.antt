@@ -1,12 +1,8 @@
-use Rattle.tables.specs.LiteralTable.{breaksLiteral}
+-- `tables::literal_table::breaks_literal` meets its contract. The tests are those of the definition, of the fields that were read.
 use borrow.Author.Needs.{needs}
+use Rattle.tables.specs.LiteralTable.{breaksLiteral}
 use Rattle.tables.proofs.literal_table.breaks_literal.Statement.{statement}
 use Rattle.tables.proofs.literal_table.breaks_literal.Tie as tie
-use Rattle.tables.proofs.literal_table.breaks_literal.Reads as reads
-use Rattle.tables.proofs.literal_table.breaks_literal.Lts as lts
-use Rattle.tables.proofs.bytes.word_at.Reads as word-at-reads
-use Rattle.tables.proofs.literal_table.literal_record.Reads as literal-record-reads
-use Rattle.tables.proofs.literal_table.not_one_or_two.Reads as not-one-or-two-reads
 
 literal-record-requires : tie.Need-literal-record-requires
 literal-record-requires c κs = search needs

@@ -1,11 +1,9 @@
+-- `tables::term_table::argument_wrong` meets its contract. The tests are those of the definition, of the fields that were read.
 use native.Mathlib.Omega.{arith}
-use Rattle.tables.specs.TermTable.{notLower, unusedNotZero}
 use borrow.Author.Needs.{needs}
+use Rattle.tables.specs.TermTable.{notLower, unusedNotZero}
 use Rattle.tables.proofs.term_table.argument_wrong.Statement.{statement}
 use Rattle.tables.proofs.term_table.argument_wrong.Tie as tie
-use Rattle.tables.proofs.term_table.argument_wrong.Reads as reads
-use Rattle.tables.proofs.term_table.argument_wrong.Lts as lts
-use Rattle.tables.proofs.bytes.word_at.Reads as word-at-reads
 
 shared-slice-read-arity : tie.Need-shared-slice-read-arity
 shared-slice-read-arity c = search needs

@@ -1,15 +1,11 @@
+-- `tables::term_table::breaks_layout` meets its contract. The two tests of an argument field, over all fields at once, are the tests of the definition one after the other.
 use mathlib.Core.Bool.{_||_, or-assoc}
+use borrow.Author.Needs.{needs}
 use Rattle.tables.specs.TermTable.{arityWrong, spareWrong, notLower, unusedNotZero, breaksLayout}
 use Rattle.tables.specs.Words.{someBelow}
 use Rattle.tables.proofs.Records.{some-either}
-use borrow.Author.Needs.{needs}
 use Rattle.tables.proofs.term_table.breaks_layout.Statement.{statement}
 use Rattle.tables.proofs.term_table.breaks_layout.Tie as tie
-use Rattle.tables.proofs.term_table.breaks_layout.Reads as reads
-use Rattle.tables.proofs.term_table.breaks_layout.Lts as lts
-use Rattle.tables.proofs.term_table.arguments_wrong.Reads as arguments-wrong-reads
-use Rattle.tables.proofs.term_table.spare_wrong.Reads as spare-wrong-reads
-use Rattle.tables.proofs.term_table.term_record.Reads as term-record-reads
 
 term-record-requires : tie.Need-term-record-requires
 term-record-requires c κs = search needs
@@ -28,9 +24,10 @@ unfolding breaksLayout arityWrong
 returns c =
     let k = c .before .before .before .before .before .args .k in
     let r = c .before .before .before .term-record .result .now in
-    cc
-    (some-either (notLower k r) (unusedNotZero r) 4,
-    or-assoc (arityWrong r || spareWrong r) (someBelow (notLower k r) 4) (someBelow (unusedNotZero r) 4))
+    cc (
+      some-either (notLower k r) (unusedNotZero r) 4,
+      or-assoc (arityWrong r || spareWrong r) (someBelow (notLower k r) 4) (someBelow (unusedNotZero r) 4),
+    )
 
 pub breaks-layout-spec : {M : Type 1} → statement M
 breaks-layout-spec =

@@ -1,11 +1,8 @@
-use Rattle.tables.specs.TermTable.{otherArity}
+-- `tables::term_table::other_arity` meets its contract. The tests are those of the definition, of the fields that were read.
 use borrow.Author.Needs.{needs}
+use Rattle.tables.specs.TermTable.{otherArity}
 use Rattle.tables.proofs.term_table.other_arity.Statement.{statement}
 use Rattle.tables.proofs.term_table.other_arity.Tie as tie
-use Rattle.tables.proofs.term_table.other_arity.Reads as reads
-use Rattle.tables.proofs.term_table.other_arity.Lts as lts
-use Rattle.tables.proofs.bytes.word_at.Reads as word-at-reads
-use Rattle.tables.proofs.term_table.term_record.Reads as term-record-reads
 
 term-record-requires : tie.Need-term-record-requires
 term-record-requires c κs = search needs

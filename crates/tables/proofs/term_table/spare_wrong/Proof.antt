@@ -1,11 +1,10 @@
+-- `tables::term_table::spare_wrong` meets its contract. The tests are those of the definition.
 use mathlib.Core.Bool.{or-assoc, or-false}
+use borrow.Author.Needs.{needs}
 use Rattle.tables.specs.Words.{any}
 use Rattle.tables.specs.TermTable.{spareWrong}
-use borrow.Author.Needs.{needs}
 use Rattle.tables.proofs.term_table.spare_wrong.Statement.{statement}
 use Rattle.tables.proofs.term_table.spare_wrong.Tie as tie
-use Rattle.tables.proofs.term_table.spare_wrong.Reads as reads
-use Rattle.tables.proofs.term_table.spare_wrong.Lts as lts
 
 shared-slice-read-result : tie.Need-shared-slice-read-result
 shared-slice-read-result c = search needs
