@@ -1,9 +1,10 @@
 // The two tables of document 01: any bytes in; the refusals 1 to 6 with their place, or the tables read.
 
+pub mod arguments;
 mod bytes;
 pub mod checks;
 mod literal_table;
-pub mod term_table;
+mod term_table;
 
 // What the checks of rows 1 to 6 say: sound, or the row that refuses, with its place.
 pub enum Check {

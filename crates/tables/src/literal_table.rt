@@ -1,4 +1,5 @@
-// The literal table of document 01: its records, row 6 of the checks, and its columns as arrays.
+// The literal table of document 01: its records, row 6 of the checks, and its columns as arrays. The tests of one record are joined
+// by |, so that each is the definition's own.
 
 use super::Found;
 use super::bytes;

@@ -1,4 +1,5 @@
-// The term table of document 01: its records, rows 3 to 5 of the checks, and its columns as arrays.
+// The term table of document 01: its records, rows 3 to 5 of the checks, and its columns as arrays. The tests of one record are joined
+// by | and &, so that each is the definition's own.
 
 use super::Found;
 use super::bytes;
@@ -10,7 +11,7 @@ ghost use Rattle.tables.specs.Bytes.{byteAt, wordAt};
 ghost use Rattle.tables.specs.Words.{someBelow};
 ghost use Rattle.tables.specs.TermTable.{termCount, termRecord, rowOf, spareWrong, notLower, unusedNotZero, breaksLayout, otherArity, hadOtherArity, equalRecords, equalsEarlier};
 ghost use Rattle.tables.specs.Checks.{foundOf, layoutRow, arityRow, repeatedRow};
-ghost use Rattle.tables.specs.Read.{filled, argumentRows};
+ghost use Rattle.tables.specs.Read.{filled};
 
 // The bytes of term record k, so that a field is read at its own offset.
 pub fn term_record(terms: &[u8], k: usize) -> &[u8]
@@ -199,18 +200,4 @@ pub fn row(r: &[u8]) -> [u16; 4]
     let third = bytes::word_at(r, 8);
     let fourth = bytes::word_at(r, 10);
     [first, second, third, fourth]
-}
-
-// "The arguments are worked on as a row of four for each term." Of any bytes: as many whole records as there are and fit.
-pub fn rows(terms: &[u8]) -> [[u16; 4]; 256]
-    ensures { λ r. ⌜ r ≡ argumentRows (now (terms .entry)) ⌝ }
-{
-    let mut rows = [[0u16; 4]; 256];
-    let count = bytes::fitting(terms.len() / 16, 256);
-    let mut k = 0;
-    while k < count {
-        rows[k] = row(term_record(terms, k));
-        k += 1;
-    }
-    rows
 }
