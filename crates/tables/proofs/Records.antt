@@ -6,10 +6,10 @@ use mathlib.Core.Path.{_≡_, refl, sym, ap, ap₂, _∙_}
 use Prim.Native.Nat.{ℕ, suc, _+_, _*_, _-_, _≤_, _<_, min}
 use native.Mathlib.Numerals.{add-one}
 use native.Mathlib.Omega.{arith}
-use lib.Dec.{T, not-T, ltb}
+use lib.Dec.{T, not-T}
 use lib.ListN.{length, getD, take, drop, set, replicate, length-take, length-drop, length-map}
 use lib.Seq.{set-at, ext-getD}
-use Rattle.tables.specs.Words.{below, same, someBelow, orElse, firstBelow, First}
+use Rattle.tables.specs.Words.{below, same, someBelow, orElse, firstBelow}
 use Rattle.tables.specs.Bytes.{recordAt}
 use Rattle.tables.specs.Read.{filled}
 use Rattle.tables.proofs.Words.{passes, passed, failed, or-cases, or-left, or-right, same-test, same-eq, same-self, length-below, some-someBelow, someBelow-some, firstBelow-none, first-firstBelow}
@@ -41,6 +41,7 @@ module _ (p : ℕ → Bool) (n : ℕ) where
   abbrev pub NoneYet : ℕ → Type 0
   NoneYet i = (i ≤ n) × (someBelow p i ≡ false)
 
+  -- below 0 there is none
   pub none-yet : NoneYet 0
   unfolding someBelow
   none-yet = (omega arith, refl)
@@ -62,6 +63,7 @@ module _ (p : ℕ → Bool) (n : ℕ) where
   abbrev pub NotYet : ℕ → Type 0
   NotYet i = (i ≤ n) × (firstBelow p i ≡ none)
 
+  -- below 0 there is none
   pub not-yet : NotYet 0
   unfolding firstBelow
   not-yet = (omega arith, refl)
@@ -125,6 +127,7 @@ module _ {ℓ} {X : Type ℓ} (size : ℕ) (filler : X) (f : ℕ → X) where
   abbrev pub Filling : ℕ → ℕ → List X → Type ℓ
   Filling n i xs = (i ≤ n) × (xs ≡ written i)
 
+  -- nothing is written yet
   pub filling-none : (n : ℕ) → Filling n 0 (replicate size filler)
   filling-none n = (omega arith, written-none)
 

@@ -4,7 +4,6 @@ use super::Check;
 use super::Found;
 use super::literal_table;
 use super::term_table;
-
 ghost use mathlib.Core.Path.{_≡_};
 ghost use Rattle.tables.specs.Checks.{foundOf, placeOf, lengthRow, countRow, checked};
 

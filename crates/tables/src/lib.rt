@@ -1,11 +1,12 @@
 // The two tables of document 01: any bytes in; the refusals 1 to 6 with their place, or the tables read.
 
-pub mod bytes;
+pub mod arguments;
+mod bytes;
 pub mod checks;
-pub mod colouring;
-pub mod literal_table;
-pub mod reading;
-pub mod term_table;
+mod colouring;
+mod literal_table;
+mod reading;
+mod term_table;
 
 ghost use mathlib.Core.Path.{_≡_};
 ghost use Rattle.tables.specs.Read.{tablesRead};

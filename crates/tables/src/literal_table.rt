@@ -1,8 +1,8 @@
-// The literal table of document 01: its records, row 6 of the checks, and its columns as arrays.
+// The literal table of document 01: its records, row 6 of the checks, and its columns as arrays. The tests of one record are joined
+// by |, so that each is the definition's own.
 
 use super::Found;
 use super::bytes;
-
 ghost use mathlib.Core.Path.{_≡_};
 ghost use Prim.Native.Nat.{_+_, _*_, _≤_, _<_};
 ghost use lib.ListN.{length};
@@ -26,7 +26,7 @@ pub fn literal_record(literals: &[u8], k: usize) -> &[u8]
 fn not_one_or_two(b: u8) -> bool
     ensures { λ r. ⌜ r ≡ notOneOrTwo b ⌝ }
 {
-    b != 1 && b != 2
+    !((b == 1) | (b == 2))
 }
 
 // Row 6, of literal record k in a table of so many terms.
@@ -35,21 +35,12 @@ fn breaks_literal(terms: usize, literals: &[u8], k: usize) -> bool
     ensures { λ b. ⌜ b ≡ breaksLiteral terms (now (literals .entry)) k ⌝ }
 {
     let r = literal_record(literals, k);
-    let left = bytes::word_at(r, 2) as usize;
-    let right = bytes::word_at(r, 4) as usize;
-    if not_one_or_two(r[0]) {
-        return true;
-    }
-    if not_one_or_two(r[1]) {
-        return true;
-    }
-    if terms <= left {
-        return true;
-    }
-    if terms <= right {
-        return true;
-    }
-    bytes::word_at(r, 6) != 0
+    let side = not_one_or_two(r[0]);
+    let kind = not_one_or_two(r[1]);
+    let left = terms <= bytes::word_at(r, 2) as usize;
+    let right = terms <= bytes::word_at(r, 4) as usize;
+    let spare = bytes::word_at(r, 6) != 0;
+    side | kind | left | right | spare
 }
 
 // Row 6's place: the first literal record that breaks it.

@@ -2,6 +2,7 @@
 
 use super::Check;
 use super::Tables;
+use super::arguments;
 use super::colouring;
 use super::literal_table;
 use super::term_table;
@@ -18,7 +19,7 @@ pub fn sound(terms: &[u8], literals: &[u8]) -> Tables
     let records = literals.len() / 8;
     let symbols = term_table::term_words(terms, 0);
     let arities = term_table::term_bytes(terms, 2);
-    let rows = term_table::rows(terms);
+    let rows = arguments::rows(terms);
     let sides = literal_table::literal_bytes(literals, 0);
     let kinds = literal_table::literal_bytes(literals, 1);
     let lefts = literal_table::literal_words(literals, 2);

@@ -1,8 +1,8 @@
-// The term table of document 01: its records, rows 3 to 5 of the checks, and its columns as arrays.
+// The term table of document 01: its records, rows 3 to 5 of the checks, and its columns as arrays. The tests of one record are joined
+// by | and &, so that each is the definition's own.
 
 use super::Found;
 use super::bytes;
-
 ghost use mathlib.Core.Bool.{_||_};
 ghost use mathlib.Core.Path.{_≡_};
 ghost use Prim.Native.Nat.{_+_, _*_, _≤_, _<_};
@@ -11,7 +11,7 @@ ghost use Rattle.tables.specs.Bytes.{byteAt, wordAt};
 ghost use Rattle.tables.specs.Words.{someBelow};
 ghost use Rattle.tables.specs.TermTable.{termCount, termRecord, rowOf, spareWrong, notLower, unusedNotZero, breaksLayout, otherArity, hadOtherArity, equalRecords, equalsEarlier};
 ghost use Rattle.tables.specs.Checks.{foundOf, layoutRow, arityRow, repeatedRow};
-ghost use Rattle.tables.specs.Read.{filled, argumentRows};
+ghost use Rattle.tables.specs.Read.{filled};
 
 // The bytes of term record k, so that a field is read at its own offset.
 pub fn term_record(terms: &[u8], k: usize) -> &[u8]
@@ -28,22 +28,7 @@ fn spare_wrong(r: &[u8]) -> bool
     requires { ⌜ length (now r) ≡ 16 ⌝ }
     ensures { λ b. ⌜ b ≡ spareWrong (now (r .entry)) ⌝ }
 {
-    if r[3] != 0 {
-        return true;
-    }
-    if r[12] != 0 {
-        return true;
-    }
-    if r[13] != 0 {
-        return true;
-    }
-    if r[14] != 0 {
-        return true;
-    }
-    if r[15] != 0 {
-        return true;
-    }
-    false
+    (r[3] != 0) | (r[12] != 0) | (r[13] != 0) | (r[14] != 0) | (r[15] != 0)
 }
 
 // An argument within the arity has to be lower than the record's own number, one past it zero.
@@ -53,7 +38,7 @@ fn argument_wrong(r: &[u8], k: usize, j: usize) -> bool
 {
     let arity = r[2] as usize;
     let argument = bytes::word_at(r, 4 + 2 * j) as usize;
-    if j < arity { k <= argument } else { argument != 0 }
+    ((j < arity) & (k <= argument)) | ((arity <= j) & (argument != 0))
 }
 
 // The four argument fields, up to the first wrong one.
@@ -77,13 +62,7 @@ fn breaks_layout(terms: &[u8], k: usize) -> bool
     ensures { λ b. ⌜ b ≡ breaksLayout (now (terms .entry)) k ⌝ }
 {
     let r = term_record(terms, k);
-    if r[2] > 4 {
-        return true;
-    }
-    if spare_wrong(r) {
-        return true;
-    }
-    arguments_wrong(r, k)
+    (r[2] > 4) | spare_wrong(r) | arguments_wrong(r, k)
 }
 
 // Whether record k has the symbol of record j and another arity.
@@ -93,7 +72,7 @@ fn other_arity(terms: &[u8], k: usize, j: usize) -> bool
 {
     let earlier = term_record(terms, j);
     let own = term_record(terms, k);
-    bytes::word_at(earlier, 0) == bytes::word_at(own, 0) && earlier[2] != own[2]
+    (bytes::word_at(earlier, 0) == bytes::word_at(own, 0)) & (earlier[2] != own[2])
 }
 
 // Row 4: "a symbol had another arity in an earlier record".
@@ -221,18 +200,4 @@ pub fn row(r: &[u8]) -> [u16; 4]
     let third = bytes::word_at(r, 8);
     let fourth = bytes::word_at(r, 10);
     [first, second, third, fourth]
-}
-
-// "The arguments are worked on as a row of four for each term." Of any bytes: as many whole records as there are and fit.
-pub fn rows(terms: &[u8]) -> [[u16; 4]; 256]
-    ensures { λ r. ⌜ r ≡ argumentRows (now (terms .entry)) ⌝ }
-{
-    let mut rows = [[0u16; 4]; 256];
-    let count = bytes::fitting(terms.len() / 16, 256);
-    let mut k = 0;
-    while k < count {
-        rows[k] = row(term_record(terms, k));
-        k += 1;
-    }
-    rows
 }

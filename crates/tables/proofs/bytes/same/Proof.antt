@@ -1,14 +1,13 @@
-use native.Mathlib.Omega.{arith}
-use Prim.Native.Nat.{ℕ, _≤_, _<_, _-_}
+-- `tables::bytes::same` meets its contract. The invariant: the bytes passed are the same in both. The measure is what is left of the length.
 use mathlib.Core.Path.{_≡_, sym}
+use Prim.Native.Nat.{ℕ, _≤_, _<_, _-_}
+use native.Mathlib.Omega.{arith}
 use lib.ListN.{length, getD}
 use borrow.Author.Count.{below-more}
-use Rattle.tables.proofs.Records.{differ, agree}
 use borrow.Author.Needs.{needs}
+use Rattle.tables.proofs.Records.{differ, agree}
 use Rattle.tables.proofs.bytes.same.Statement.{statement}
 use Rattle.tables.proofs.bytes.same.Tie as tie
-use Rattle.tables.proofs.bytes.same.Reads as reads
-use Rattle.tables.proofs.bytes.same.Lts as lts
 
 abbrev Inv-loop : tie.InvT-loop
 Inv-loop a b i₀ i = (i ≤ length a) × ((k : ℕ) → k < i → getD a k 0 ≡ getD b k 0)

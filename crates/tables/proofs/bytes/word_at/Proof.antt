@@ -1,10 +1,9 @@
-use native.Mathlib.Omega.{arith}
+-- `tables::bytes::word_at` meets its contract. A byte is below 256, so the number fits.
 use Prim.Native.Nat.{_+_}
+use native.Mathlib.Omega.{arith}
 use borrow.Author.Needs.{needs}
 use Rattle.tables.proofs.bytes.word_at.Statement.{statement}
 use Rattle.tables.proofs.bytes.word_at.Tie as tie
-use Rattle.tables.proofs.bytes.word_at.Reads as reads
-use Rattle.tables.proofs.bytes.word_at.Lts as lts
 
 shared-slice-read-result : tie.Need-shared-slice-read-result
 shared-slice-read-result c = search needs

@@ -1,10 +1,8 @@
-use Rattle.tables.specs.Checks.{lengthRow}
+-- `tables::checks::length_row` meets its contract. The two tests are those of the definition.
 use borrow.Author.Needs.{needs}
+use Rattle.tables.specs.Checks.{lengthRow}
 use Rattle.tables.proofs.checks.length_row.Statement.{statement}
 use Rattle.tables.proofs.checks.length_row.Tie as tie
-use Rattle.tables.proofs.checks.length_row.Reads as reads
-use Rattle.tables.proofs.checks.length_row.Lts as lts
-use Rattle.tables.proofs.checks.place.Reads as place-reads
 
 place-requires : tie.Need-place-requires
 place-requires c κs = search needs

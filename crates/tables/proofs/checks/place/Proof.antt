@@ -1,9 +1,8 @@
-use Rattle.tables.specs.Checks.{placeOf}
+-- `tables::checks::place` meets its contract. Each way returns the place that the definition names there.
 use borrow.Author.Needs.{needs}
+use Rattle.tables.specs.Checks.{placeOf}
 use Rattle.tables.proofs.checks.place.Statement.{statement}
 use Rattle.tables.proofs.checks.place.Tie as tie
-use Rattle.tables.proofs.checks.place.Reads as reads
-use Rattle.tables.proofs.checks.place.Lts as lts
 
 returns : tie.Need-returns
 unfolding placeOf

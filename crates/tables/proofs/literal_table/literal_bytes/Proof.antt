@@ -1,17 +1,13 @@
-use native.Mathlib.Omega.{arith}
+-- `tables::literal_table::literal_bytes` meets its contract. The invariant: the places passed are filled. The measure is what is left of them.
 use mathlib.Core.List.{List}
-use mathlib.Core.Path.{ap, _∙_}
+use mathlib.Core.Path.{ap}
 use Prim.Native.Nat.{ℕ, _-_}
+use native.Mathlib.Omega.{arith}
 use Rattle.tables.specs.Bytes.{byteAt}
 use Rattle.tables.specs.LiteralTable.{literalRecord}
 use Rattle.tables.proofs.Records.{Filling, filling-none, filling-more, filling-all}
-use borrow.Author.Needs.{needs}
 use Rattle.tables.proofs.literal_table.literal_bytes.Statement.{statement}
 use Rattle.tables.proofs.literal_table.literal_bytes.Tie as tie
-use Rattle.tables.proofs.literal_table.literal_bytes.Reads as reads
-use Rattle.tables.proofs.literal_table.literal_bytes.Lts as lts
-use Rattle.tables.proofs.bytes.fitting.Reads as fitting-reads
-use Rattle.tables.proofs.literal_table.literal_record.Reads as literal-record-reads
 
 abbrev Inv-loop : tie.InvT-loop
 Inv-loop literals at column₀ count k₀ column k = Filling 1024 0 (λ i. byteAt (literalRecord literals i) at) count k column

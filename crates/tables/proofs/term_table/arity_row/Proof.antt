@@ -1,14 +1,11 @@
+-- `tables::term_table::arity_row` meets its contract. The invariant: no record passed has a symbol that had another arity. The measure is what is left of them.
+use Prim.Native.Nat.{_-_}
+use native.Mathlib.Omega.{arith}
 use Rattle.tables.specs.TermTable.{hadOtherArity}
 use Rattle.tables.specs.Checks.{arityRow}
 use Rattle.tables.proofs.Records.{NotYet, not-yet, first-found, not-more, not-found}
-use Prim.Native.Nat.{_-_}
-use native.Mathlib.Omega.{arith}
-use borrow.Author.Needs.{needs}
 use Rattle.tables.proofs.term_table.arity_row.Statement.{statement}
 use Rattle.tables.proofs.term_table.arity_row.Tie as tie
-use Rattle.tables.proofs.term_table.arity_row.Reads as reads
-use Rattle.tables.proofs.term_table.arity_row.Lts as lts
-use Rattle.tables.proofs.term_table.had_other_arity.Reads as had-other-arity-reads
 
 abbrev Inv-loop : tie.InvT-loop
 Inv-loop terms count k₀ k = NotYet (hadOtherArity terms) count k

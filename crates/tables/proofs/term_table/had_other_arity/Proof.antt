@@ -1,13 +1,10 @@
-use Rattle.tables.specs.TermTable.{otherArity, hadOtherArity}
-use Rattle.tables.proofs.Records.{NoneYet, none-yet, some-passed, none-more, none-passed}
+-- `tables::term_table::had_other_arity` meets its contract. The invariant: no record passed has the symbol with another arity. The measure is what is left of them.
 use Prim.Native.Nat.{_-_}
 use native.Mathlib.Omega.{arith}
-use borrow.Author.Needs.{needs}
+use Rattle.tables.specs.TermTable.{otherArity, hadOtherArity}
+use Rattle.tables.proofs.Records.{NoneYet, none-yet, some-passed, none-more, none-passed}
 use Rattle.tables.proofs.term_table.had_other_arity.Statement.{statement}
 use Rattle.tables.proofs.term_table.had_other_arity.Tie as tie
-use Rattle.tables.proofs.term_table.had_other_arity.Reads as reads
-use Rattle.tables.proofs.term_table.had_other_arity.Lts as lts
-use Rattle.tables.proofs.term_table.other_arity.Reads as other-arity-reads
 
 abbrev Inv-loop : tie.InvT-loop
 Inv-loop terms k j₀ j = NoneYet (otherArity terms k) k j

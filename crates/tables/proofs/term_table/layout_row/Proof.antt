@@ -1,14 +1,11 @@
+-- `tables::term_table::layout_row` meets its contract. The invariant: no record passed breaks its layout. The measure is what is left of them.
+use Prim.Native.Nat.{_-_}
+use native.Mathlib.Omega.{arith}
 use Rattle.tables.specs.TermTable.{breaksLayout}
 use Rattle.tables.specs.Checks.{layoutRow}
 use Rattle.tables.proofs.Records.{NotYet, not-yet, first-found, not-more, not-found}
-use Prim.Native.Nat.{_-_}
-use native.Mathlib.Omega.{arith}
-use borrow.Author.Needs.{needs}
 use Rattle.tables.proofs.term_table.layout_row.Statement.{statement}
 use Rattle.tables.proofs.term_table.layout_row.Tie as tie
-use Rattle.tables.proofs.term_table.layout_row.Reads as reads
-use Rattle.tables.proofs.term_table.layout_row.Lts as lts
-use Rattle.tables.proofs.term_table.breaks_layout.Reads as breaks-layout-reads
 
 abbrev Inv-loop : tie.InvT-loop
 Inv-loop terms count k₀ k = NotYet (breaksLayout terms) count k

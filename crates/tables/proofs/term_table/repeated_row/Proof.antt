@@ -1,14 +1,11 @@
+-- `tables::term_table::repeated_row` meets its contract. The invariant: no record passed equals an earlier one. The measure is what is left of them.
+use Prim.Native.Nat.{_-_}
+use native.Mathlib.Omega.{arith}
 use Rattle.tables.specs.TermTable.{equalsEarlier}
 use Rattle.tables.specs.Checks.{repeatedRow}
 use Rattle.tables.proofs.Records.{NotYet, not-yet, first-found, not-more, not-found}
-use Prim.Native.Nat.{_-_}
-use native.Mathlib.Omega.{arith}
-use borrow.Author.Needs.{needs}
 use Rattle.tables.proofs.term_table.repeated_row.Statement.{statement}
 use Rattle.tables.proofs.term_table.repeated_row.Tie as tie
-use Rattle.tables.proofs.term_table.repeated_row.Reads as reads
-use Rattle.tables.proofs.term_table.repeated_row.Lts as lts
-use Rattle.tables.proofs.term_table.equals_earlier.Reads as equals-earlier-reads
 
 abbrev Inv-loop : tie.InvT-loop
 Inv-loop terms count k₀ k = NotYet (equalsEarlier terms) count k

@@ -1,10 +1,8 @@
-use Rattle.tables.specs.TermTable.{rowOf}
+-- `tables::term_table::row` meets its contract. The four fields that were read are the row.
 use borrow.Author.Needs.{needs}
+use Rattle.tables.specs.TermTable.{rowOf}
 use Rattle.tables.proofs.term_table.row.Statement.{statement}
 use Rattle.tables.proofs.term_table.row.Tie as tie
-use Rattle.tables.proofs.term_table.row.Reads as reads
-use Rattle.tables.proofs.term_table.row.Lts as lts
-use Rattle.tables.proofs.bytes.word_at.Reads as word-at-reads
 
 word-at-requires : tie.Need-word-at-requires
 word-at-requires c κs = search needs

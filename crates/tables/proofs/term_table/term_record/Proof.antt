@@ -1,12 +1,11 @@
-use Prim.Native.Nat.{_*_}
+-- `tables::term_table::term_record` meets its contract. A part of the table, by the law of records at size 16.
 use mathlib.Core.Path.{ap, _∙_}
+use Prim.Native.Nat.{_*_}
 use lib.ListN.{length}
-use Rattle.tables.proofs.Records.{part-is, record-length}
 use borrow.Author.Needs.{needs}
+use Rattle.tables.proofs.Records.{part-is, record-length}
 use Rattle.tables.proofs.term_table.term_record.Statement.{statement}
 use Rattle.tables.proofs.term_table.term_record.Tie as tie
-use Rattle.tables.proofs.term_table.term_record.Reads as reads
-use Rattle.tables.proofs.term_table.term_record.Lts as lts
 
 mul-start : tie.Need-mul-start
 mul-start c = search needs

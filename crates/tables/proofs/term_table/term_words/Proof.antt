@@ -1,18 +1,13 @@
-use native.Mathlib.Omega.{arith}
+-- `tables::term_table::term_words` meets its contract. The invariant: the places passed are filled. The measure is what is left of them.
 use mathlib.Core.List.{List}
 use mathlib.Core.Path.{ap, _∙_}
 use Prim.Native.Nat.{ℕ, _-_}
+use native.Mathlib.Omega.{arith}
 use Rattle.tables.specs.Bytes.{wordAt}
 use Rattle.tables.specs.TermTable.{termRecord}
 use Rattle.tables.proofs.Records.{Filling, filling-none, filling-more, filling-all}
-use borrow.Author.Needs.{needs}
 use Rattle.tables.proofs.term_table.term_words.Statement.{statement}
 use Rattle.tables.proofs.term_table.term_words.Tie as tie
-use Rattle.tables.proofs.term_table.term_words.Reads as reads
-use Rattle.tables.proofs.term_table.term_words.Lts as lts
-use Rattle.tables.proofs.bytes.fitting.Reads as fitting-reads
-use Rattle.tables.proofs.bytes.word_at.Reads as word-at-reads
-use Rattle.tables.proofs.term_table.term_record.Reads as term-record-reads
 
 abbrev Inv-loop : tie.InvT-loop
 Inv-loop terms at column₀ count k₀ column k = Filling 256 0 (λ i. wordAt (termRecord terms i) at) count k column

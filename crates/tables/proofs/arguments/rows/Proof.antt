@@ -1,18 +1,13 @@
-use native.Mathlib.Omega.{arith}
-use mathlib.Core.List.{List, [], _∷_}
+-- `tables::arguments::rows` meets its contract. The invariant: the rows passed are filled. The measure is what is left of them.
+use mathlib.Core.List.{[], _∷_}
 use mathlib.Core.Path.{ap, _∙_}
-use Prim.Native.Nat.{ℕ, _-_}
+use Prim.Native.Nat.{_-_}
+use native.Mathlib.Omega.{arith}
 use Rattle.tables.specs.TermTable.{termRecord, rowOf}
 use Rattle.tables.specs.Read.{argumentRows}
 use Rattle.tables.proofs.Records.{Filling, filling-none, filling-more, filling-all}
-use borrow.Author.Needs.{needs}
-use Rattle.tables.proofs.term_table.rows.Statement.{statement}
-use Rattle.tables.proofs.term_table.rows.Tie as tie
-use Rattle.tables.proofs.term_table.rows.Reads as reads
-use Rattle.tables.proofs.term_table.rows.Lts as lts
-use Rattle.tables.proofs.bytes.fitting.Reads as fitting-reads
-use Rattle.tables.proofs.term_table.row.Reads as row-reads
-use Rattle.tables.proofs.term_table.term_record.Reads as term-record-reads
+use Rattle.tables.proofs.arguments.rows.Statement.{statement}
+use Rattle.tables.proofs.arguments.rows.Tie as tie
 
 abbrev Inv-loop : tie.InvT-loop
 Inv-loop terms rows₀ count k₀ rows k = Filling 256 (0 ∷ 0 ∷ 0 ∷ 0 ∷ []) (λ i. rowOf (termRecord terms i)) count k rows
