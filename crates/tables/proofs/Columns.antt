@@ -24,18 +24,23 @@ use Rattle.tables.proofs.Sound.{SoundTables, length-termsOf, termAt-ter
 
 -- ---- the columns
 
+-- the symbol of each term record
 abbrev pub symbolColumn : List ℕ → List ℕ
 symbolColumn bs = filled 256 0 (termCount bs) (λ k. symbolField (termRecord bs k))
 
+-- the arity of each term record
 abbrev pub arityColumn : List ℕ → List ℕ
 arityColumn bs = filled 256 0 (termCount bs) (λ k. arityField (termRecord bs k))
 
+-- the side of each literal record, as its byte
 abbrev pub sideColumn : List ℕ → List ℕ
 sideColumn ls = filled 1024 0 (literalCount ls) (λ k. byteAt (literalRecord ls k) 0)
 
+-- the left side of each literal record
 abbrev pub leftColumn : List ℕ → List ℕ
 leftColumn ls = filled 1024 0 (literalCount ls) (λ k. wordAt (literalRecord ls k) 2)
 
+-- the right side of each literal record
 abbrev pub rightColumn : List ℕ → List ℕ
 rightColumn ls = filled 1024 0 (literalCount ls) (λ k. wordAt (literalRecord ls k) 4)
 
@@ -44,6 +49,7 @@ abbrev pub sideNumber : Side → ℕ
 sideNumber A = 1
 sideNumber B = 2
 
+-- two sides of one number are one
 sideNumber-one : (X Y : Side) → sideNumber X ≡ sideNumber Y → X ≡ Y
 sideNumber-one A A e = refl
 sideNumber-one A B e = absurd (omega arith)
@@ -109,9 +115,11 @@ module _ (bs ls : List ℕ) (s : SoundTables bs ls) where
 
   -- ---- the literals
 
+  -- an entry of the left sides
   left-at : (k : ℕ) → k < literalCount ls → getD (leftColumn ls) k 0 ≡ wordAt (literalRecord ls k) 2
   left-at k h = filled-at (λ i. wordAt (literalRecord ls i) 2) 1024 0 (literalCount ls) k 0 h (s .literals-fit)
 
+  -- an entry of the right sides
   right-at : (k : ℕ) → k < literalCount ls → getD (rightColumn ls) k 0 ≡ wordAt (literalRecord ls k) 4
   right-at k h = filled-at (λ i. wordAt (literalRecord ls i) 4) 1024 0 (literalCount ls) k 0 h (s .literals-fit)
 
@@ -120,6 +128,7 @@ module _ (bs ls : List ℕ) (s : SoundTables bs ls) where
   unfolding literalOf
   side-at k h = filled-at (λ i. byteAt (literalRecord ls i) 0) 1024 0 (literalCount ls) k 0 h (s .literals-fit) ∙ sym (number-of-side (byteAt (literalRecord ls k) 0) (sound-literal bs ls s k h .side))
 
+  -- the literals' sides are term numbers
   pub literals-within : LiteralsWithin (leftColumn ls) (rightColumn ls) (literalCount ls)
   literals-within =
       record {
@@ -240,24 +249,36 @@ pub record Columns (bs ls symbols arities : List ℕ) (rows : List (List ℕ)) (
   pub rights-read : rights ≡ rightColumn ls
 
 module _ (bs ls symbols arities : List ℕ) (rows : List (List ℕ)) (sides lefts rights : List ℕ) (c : Columns bs ls symbols arities rows sides lefts rights) where
+  -- what holds of the columns holds of the arrays
+  columns-carry : (P : List (List ℕ) → List ℕ → List ℕ → List ℕ → List ℕ → Type 0) → P (argumentRows bs) (arityColumn bs) (sideColumn ls) (leftColumn ls) (rightColumn ls) → P rows arities sides lefts rights
+  columns-carry P x =
+      subst (λ (r : List (List ℕ)). P r arities sides lefts rights) (sym (c .rows-read))
+      (subst (λ (a : List ℕ). P (argumentRows bs) a sides lefts rights) (sym (c .arities-read))
+      (subst (λ (d : List ℕ). P (argumentRows bs) (arityColumn bs) d lefts rights) (sym (c .sides-read))
+      (subst (λ (l : List ℕ). P (argumentRows bs) (arityColumn bs) (sideColumn ls) l rights) (sym (c .lefts-read))
+      (subst (λ (r : List ℕ). P (argumentRows bs) (arityColumn bs) (sideColumn ls) (leftColumn ls) r) (sym (c .rights-read)) x))))
+
+  -- the rows are lower
   pub columns-lower : LowerRows rows arities
-  columns-lower = subst (λ (r : List (List ℕ)). LowerRows r arities) (sym (c .rows-read)) (subst (LowerRows (argumentRows bs)) (sym (c .arities-read)) (lower-rows bs ls (c .tables)))
+  columns-lower = columns-carry (λ r a d l t. LowerRows r a) (lower-rows bs ls (c .tables))
 
+  -- the literals' sides are term numbers
   pub columns-within : LiteralsWithin lefts rights (literalCount ls)
-  columns-within = subst (λ (l : List ℕ). LiteralsWithin l rights (literalCount ls)) (sym (c .lefts-read)) (subst (λ (r : List ℕ). LiteralsWithin (leftColumn ls) r (literalCount ls)) (sym (c .rights-read)) (literals-within bs ls (c .tables)))
+  columns-within = columns-carry (λ r a d l t. LiteralsWithin l t (literalCount ls)) (literals-within bs ls (c .tables))
 
+  -- the rows describe the terms
   columns-described : Describes rows arities (termsOf bs)
-  columns-described = subst (λ (r : List (List ℕ)). Describes r arities (termsOf bs)) (sym (c .rows-read)) (subst (λ (a : List ℕ). Describes (argumentRows bs) a (termsOf bs)) (sym (c .arities-read)) (described bs ls (c .tables)))
+  columns-described = columns-carry (λ r a d l t. Describes r a (termsOf bs)) (described bs ls (c .tables))
 
+  -- marks of the arrays are marks of the columns
   columns-inside : (side : ℕ) (marks : List Bool) → Inside rows arities sides lefts rights side (literalCount ls) marks → Inside (argumentRows bs) (arityColumn bs) (sideColumn ls) (leftColumn ls) (rightColumn ls) side (literalCount ls) marks
-  columns-inside side marks x =
-      subst (λ (r : List ℕ). Inside (argumentRows bs) (arityColumn bs) (sideColumn ls) (leftColumn ls) r side (literalCount ls) marks) (c .rights-read)
-      (subst (λ (l : List ℕ). Inside (argumentRows bs) (arityColumn bs) (sideColumn ls) l rights side (literalCount ls) marks) (c .lefts-read)
-      (subst (λ (d : List ℕ). Inside (argumentRows bs) (arityColumn bs) d lefts rights side (literalCount ls) marks) (c .sides-read)
-      (subst (λ (a : List ℕ). Inside (argumentRows bs) a sides lefts rights side (literalCount ls) marks) (c .arities-read)
-      (subst (λ (r : List (List ℕ)). Inside r arities sides lefts rights side (literalCount ls) marks) (c .rows-read) x))))
+  columns-inside side marks =
+      columns-carry
+      (λ r a d l t. Inside r a d l t side (literalCount ls) marks → Inside (argumentRows bs) (arityColumn bs) (sideColumn ls) (leftColumn ls) (rightColumn ls) side (literalCount ls) marks)
+      (λ x. x)
 
   module _ (a b : List Bool) (x : Inside rows arities sides lefts rights 1 (literalCount ls) a) (y : Inside rows arities sides lefts rights 2 (literalCount ls) b) where
+    -- the terms in use, as the code has them
     pub columns-used : (used : List Bool) → used ≡ filled 256 false (termCount bs) (λ t. getD a t false || getD b t false) → used ≡ filled 256 false (termCount bs) (inUse (termsOf bs) (literalsOf ls))
     columns-used used e = e ∙ used-read bs ls (c .tables) a b (columns-inside 1 a x) (columns-inside 2 b y)
 
@@ -265,6 +286,7 @@ module _ (bs ls symbols arities : List ℕ) (rows : List (List ℕ)) (sides left
     abbrev occurs-by : List Bool → List Bool
     occurs-by marks = filled 256 false (termCount bs) (λ t. someBelow (sameSymbolInside symbols marks t) (termCount bs))
 
+    -- the colours, as the code has them
     pub columns-colours : (in-a in-b : List Bool) (colours : List ℕ) → in-a ≡ occurs-by a → in-b ≡ occurs-by b → ((ts : List Term) → Describes rows arities ts → length ts ≡ termCount bs → colours ≡ filled 256 0 (termCount bs) (partsColour in-a in-b ts)) → colours ≡ filled 256 0 (termCount bs) (colourNumber (termsOf bs) (literalsOf ls) (termsOf bs))
     columns-colours in-a in-b colours p q e =
         e (termsOf bs) columns-described (length-termsOf bs) ∙

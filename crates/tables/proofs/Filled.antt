@@ -13,6 +13,7 @@ use Rattle.tables.proofs.Words.{length-below, below-mem, below-or-is, b
 use Rattle.tables.proofs.Terms.{map-agree}
 
 module _ {ℓ} {X : Type ℓ} (f : ℕ → X) where
+  -- an entry for each number
   pub length-map-below : (n : ℕ) → length (map f (below n)) ≡ n
   length-map-below n = length-map (below n) f ∙ length-below n
 
@@ -28,6 +29,7 @@ module _ {ℓ} {X : Type ℓ} (f : ℕ → X) where
       (below-or-is k n h)
 
   module _ (size : ℕ) (filler : X) (n : ℕ) where
+    -- a filled array has its size
     pub length-filled : length (filled size filler n f) ≡ size
     unfolding filled
     length-filled =

@@ -42,6 +42,7 @@ none-marked zero (suc u) m = m
 none-marked (suc n) zero m = m
 none-marked (suc n) (suc u) m = none-marked n u m
 
+-- so whatever is marked has its arguments marked
 pub none-closed : (n : ℕ) (rows : List (List ℕ)) (arities : List ℕ) → Closed rows arities (replicate n false)
 none-closed n rows arities u m a k = absurd (none-marked n u m)
 
