@@ -138,3 +138,19 @@ module _ (ts : List Term) (ls : List Literal) where
   step-joined st (basic-step l s t m k h n) u v j = joined-more (record { left = s; right = t; colour = l .side; kind = basic }) (st .graph) u v j
   step-joined st (derived-step s t X vs vt n c e) u v j = joined-more (record { left = s; right = t; colour = X; kind = derived }) (st .graph) u v j
   step-joined st (middle-step s t chosen vs vt n c oa ob ch) u v j = both-stays (placed ts ls st (middleTerm (tableOf ts st) s chosen)) s t u v (subst (λ (G : Graph). T (joined G u v)) (sym (placed-graph st (middleTerm (tableOf ts st) s chosen))) j)
+
+  -- a step adds one term at most
+  pub step-adds : (st : State) {after : State} → Step ts ls st after → length (after .added) ≤ suc (length (st .added))
+  unfolding withMiddle tiedBoth
+  step-adds st (basic-step l s t m k h n) = omega arith
+  step-adds st (derived-step s t X vs vt n c e) = omega arith
+  step-adds st (middle-step s t chosen vs vt n c oa ob ch) =
+      let m = middleTerm (tableOf ts st) s chosen in
+      let p = placed ts ls st m in
+      let one : length (p .state .added) ≤ suc (length (st .added)) = placed-either ts ls st m (λ p. length (p .state .added) ≤ suc (length (st .added))) (λ v h e. omega arith) (omega (arith, length-append (st .added) (m ∷ []))) in
+      omega (arith, one, ap length (tied-added (tied (p .state) s (p .number) A) t (p .number) B ∙ tied-added (p .state) s (p .number) A))
+
+  -- so a run adds no more terms than it has steps
+  pub run-adds : {k : ℕ} {st : State} → Run ts ls k st → length (st .added) ≤ k
+  run-adds start = le-refl 0
+  run-adds (next {st = st} run step) = omega (arith, run-adds run, step-adds st step)

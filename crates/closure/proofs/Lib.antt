@@ -16,5 +16,6 @@ pub mod Values
 pub mod SharedTerm
 pub mod OwnSteps
 pub mod OwnRun
+pub mod FewSteps
 pub mod Model
 pub mod Classes

@@ -9,8 +9,15 @@ use lib.Dec.{eqb, ltb}
 use Rattle.tables.specs.Words.{firstBelow, orElse}
 use Rattle.tables.specs.TermTable.{termCount, breaksLayout, hadOtherArity, equalsEarlier}
 use Rattle.tables.specs.LiteralTable.{literalCount, breaksLiteral}
+use Rattle.tables.specs.declared.Found.{Found}
+use Rattle.tables.specs.declared.Found.the-variants.{At, Nothing}
 use Rattle.tables.specs.declared.Check.{Check}
 use Rattle.tables.specs.declared.Check.the-variants.{Sound, Length, Count, Layout, Arity, Repeated, Literal}
+
+-- what the code finds, as an option
+abbrev pub foundOf : Found → Option ℕ
+foundOf (At place) = some place
+foundOf Nothing = none
 
 -- of two places the lower first: 0 for the terms, 1 for the literals
 unfoldable pub placeOf : Bool → Bool → Option ℕ

@@ -9,3 +9,4 @@ pub mod Terms
 pub mod Colours
 pub mod Interpretations
 pub mod Read
+pub mod Marks

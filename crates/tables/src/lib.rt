@@ -1,5 +1,16 @@
 // The two tables of document 01: any bytes in; the refusals 1 to 6 with their place, or the tables read.
 
+pub mod arguments;
+mod bytes;
+pub mod checks;
+mod colouring;
+mod literal_table;
+mod reading;
+mod term_table;
+
+ghost use mathlib.Core.Path.{_≡_};
+ghost use Rattle.tables.specs.Read.{tablesRead};
+
 // A literal is marked A or B, and so is an edge of the graph.
 pub enum Side {
     A,
@@ -17,6 +28,12 @@ pub enum Check {
     Literal(usize),
 }
 
+// The place that a row refuses at, if it refuses.
+pub enum Found {
+    At(usize),
+    Nothing,
+}
+
 // The tables as they were read; where they are refused, only the check says something and all else is 0. Past the counts the arrays
 // hold 0. The arguments stand beside this struct, as an array of rows of four.
 pub struct Tables {
@@ -31,4 +48,16 @@ pub struct Tables {
     pub kinds: [u8; 1024],
     pub lefts: [u16; 1024],
     pub rights: [u16; 1024],
+}
+
+// Any two byte strings, read: the row that refuses them with its place, or the tables as arrays.
+pub fn read(terms: &[u8], literals: &[u8]) -> Tables
+    ensures { λ r. ⌜ r ≡ tablesRead (now (terms .entry)) (now (literals .entry)) ⌝ }
+{
+    let check = checks::check(terms, literals);
+    if let Check::Sound = check {
+        reading::sound(terms, literals)
+    } else {
+        reading::refused(check)
+    }
 }

@@ -1,0 +1,153 @@
+-- What the checks of rows 1 to 6 settle: where none refuses, the tables have the form that the layers above rest on.
+use mathlib.Core.List.{List, List·Memᴰ, Memᴰ·of-map}
+use mathlib.Core.Bool.{false}
+use mathlib.Core.Logic.{_⊎_, inl, inr, ⊎-elim}
+use mathlib.Core.Path.{_≡_, refl, sym, subst, _∙_}
+use Prim.Native.Nat.{ℕ, _%_, _≤_, _<_}
+use native.Mathlib.Omega.{arith}
+use lib.Dec.{T, eqb, eqb→eq}
+use lib.ListN.{length, getD, take, length-take, List·getD-eq-default}
+use lib.Seq.{getD-take}
+use Rattle.tables.specs.Words.{below}
+use Rattle.tables.specs.Bytes.{byteAt, wordAt}
+use Rattle.tables.specs.Terms.{Term, termAt, noTerm, LowerArguments}
+use Rattle.tables.specs.TermTable.{termCount, termRecord, arityField, argumentField, rowOf, hadOtherArity, equalsEarlier, termOf, termsOf}
+use Rattle.tables.specs.LiteralTable.{Literal, literalCount, literalRecord, literalOf, literalsOf}
+use Rattle.tables.specs.Checks.{checked, numberOf}
+use Rattle.tables.specs.declared.Check.{Check}
+use Rattle.tables.specs.declared.Check.the-variants.{Sound, Length, Count, Layout, Arity, Repeated, Literal as Broken}
+use Rattle.tables.proofs.Words.{decide, below-or-not, below-mem, mem-getD}
+use Rattle.tables.proofs.Tests.{ne-test}
+use Rattle.tables.proofs.Faults.{LayoutFault, arity-over-four, argument-not-lower, breaks-layout, LiteralFault, side-not-one-or-two, kind-not-one-or-two, left-not-in-table, right-not-in-table, breaks-literal}
+use Rattle.tables.proofs.Rows.{sound-exactly}
+use Rattle.tables.proofs.Colours.{SidesWithin}
+use Rattle.tables.proofs.Filled.{length-map-below, map-below-at}
+
+-- both lengths are multiples, both counts fit, and no record breaks its rows
+pub record SoundTables (bs ls : List ℕ) : Type 0 where
+  pub terms-whole : length bs % 16 ≡ 0
+  pub literals-whole : length ls % 8 ≡ 0
+  pub terms-fit : termCount bs ≤ 256
+  pub literals-fit : literalCount ls ≤ 1024
+  pub layout : (k : ℕ) → k < termCount bs → LayoutFault k (termRecord bs k) → ⊥
+  pub one-arity : (k : ℕ) → k < termCount bs → T (hadOtherArity bs k) → ⊥
+  pub distinct : (k : ℕ) → k < termCount bs → T (equalsEarlier bs k) → ⊥
+  pub literal : (k : ℕ) → k < literalCount ls → LiteralFault (termCount bs) (literalRecord ls k) → ⊥
+
+-- where the check says sound, the tables are
+pub sound : (bs ls : List ℕ) → checked bs ls ≡ Sound → SoundTables bs ls
+sound bs ls e =
+    let r = sound-exactly bs ls .0 e in
+    let records = r .1 .1 in
+    record {
+      terms-whole = r .0 .0;
+      literals-whole = r .0 .1;
+      terms-fit = r .1 .0 .0;
+      literals-fit = r .1 .0 .1;
+      layout = λ k h f. records .0 k h (breaks-layout bs k .1 f);
+      one-arity = records .1 .0;
+      distinct = records .1 .1 .0;
+      literal = λ k h f. records .1 .1 .1 k h (breaks-literal (termCount bs) ls k .1 f);
+    }
+
+-- a check that is not sound has a number
+pub refused-number : (check : Check) → (check ≡ Sound → ⊥) → eqb (numberOf check) 0 ≡ false
+unfolding numberOf
+refused-number Sound f = absurd (f refl)
+refused-number (Length p) f = refl
+refused-number (Count p) f = refl
+refused-number (Layout p) f = refl
+refused-number (Arity p) f = refl
+refused-number (Repeated p) f = refl
+refused-number (Broken p) f = refl
+
+-- ---- the tables as lists
+
+-- there are as many terms as records
+pub length-termsOf : (bs : List ℕ) → length (termsOf bs) ≡ termCount bs
+unfolding termsOf
+length-termsOf bs = length-map-below (λ k. termOf (termRecord bs k)) (termCount bs)
+
+-- a term of the table is what its record describes
+pub termAt-termsOf : (bs : List ℕ) (t : ℕ) → t < termCount bs → termAt (termsOf bs) t ≡ termOf (termRecord bs t)
+unfolding termsOf
+termAt-termsOf bs t h = map-below-at (λ k. termOf (termRecord bs k)) (termCount bs) t noTerm h
+
+-- past the table there is no term
+pub termAt-past : (bs : List ℕ) (t : ℕ) → termCount bs ≤ t → termAt (termsOf bs) t ≡ noTerm
+termAt-past bs t h = List·getD-eq-default (termsOf bs) noTerm (omega (arith, length-termsOf bs))
+
+-- field j of a row is argument field j of its record
+pub row-at : (r : List ℕ) (j : ℕ) → j < 4 → getD (rowOf r) j 0 ≡ argumentField r j
+unfolding rowOf below
+row-at r j h = map-below-at (argumentField r) 4 j 0 h
+
+-- a row has four fields
+pub length-row : (r : List ℕ) → length (rowOf r) ≡ 4
+unfolding rowOf
+length-row r = refl
+
+-- ---- what is known of each record
+
+-- a number that may not be neither 1 nor 2 is one of them
+one-or-two : (b : ℕ) → ((b ≡ 1 → ⊥) → (b ≡ 2 → ⊥) → ⊥) → (b ≡ 1) ⊎ (b ≡ 2)
+one-or-two b f =
+    ⊎-elim
+    (λ h. inl (eqb→eq b 1 h))
+    (λ h. ⊎-elim (λ k. inr (eqb→eq b 2 k)) (λ k. absurd (f (ne-test b 1 .0 h) (ne-test b 2 .0 k))) (decide (eqb b 2)))
+    (decide (eqb b 1))
+
+-- what row 6 leaves of a literal record in a table of n terms
+pub record SoundLiteral (n : ℕ) (r : List ℕ) : Type 0 where
+  pub side : (byteAt r 0 ≡ 1) ⊎ (byteAt r 0 ≡ 2)
+  pub kind : (byteAt r 1 ≡ 1) ⊎ (byteAt r 1 ≡ 2)
+  pub left : wordAt r 2 < n
+  pub right : wordAt r 4 < n
+
+module _ (bs ls : List ℕ) (s : SoundTables bs ls) where
+  -- "arity (0 to 4)"
+  pub arity-small : (k : ℕ) → k < termCount bs → arityField (termRecord bs k) ≤ 4
+  arity-small k h = ⊎-elim (λ (l : 4 < arityField (termRecord bs k)). absurd (s .layout k h (arity-over-four l))) (λ (l : arityField (termRecord bs k) ≤ 4). l) (below-or-not 4 (arityField (termRecord bs k)))
+
+  -- "Every argument is lower than the record's own number"
+  pub argument-lower : (k j : ℕ) → k < termCount bs → j < arityField (termRecord bs k) → argumentField (termRecord bs k) j < k
+  argument-lower k j h l = ⊎-elim (λ (w : argumentField (termRecord bs k) j < k). w) (λ (w : k ≤ argumentField (termRecord bs k) j). absurd (s .layout k h (argument-not-lower j (omega (arith, arity-small k h)) l w))) (below-or-not (argumentField (termRecord bs k) j) k)
+
+  -- so is every number among the used fields of a row
+  pub used-lower : (k : ℕ) → k < termCount bs → (a : ℕ) → List·Memᴰ a (take (arityField (termRecord bs k)) (rowOf (termRecord bs k))) → a < k
+  used-lower k h a m =
+      let r = termRecord bs k in
+      let p = mem-getD 0 m in
+      let l : p .0 < arityField r = omega (arith, p .1, length-take (arityField r) (rowOf r)) in
+      let e : getD (rowOf r) (p .0) 0 ≡ argumentField r (p .0) = row-at r (p .0) (omega (arith, arity-small k h)) in
+      let q : argumentField r (p .0) ≡ a = sym e ∙ sym (getD-take (arityField r) (rowOf r) (p .0) 0 l) ∙ p .2 in
+      subst (λ (z : ℕ). z < k) q (argument-lower k (p .0) h l)
+
+  -- the same of the terms
+  pub lower-arguments : LowerArguments (termsOf bs)
+  unfolding termOf
+  lower-arguments t h a m =
+      let l : t < termCount bs = omega (arith, length-termsOf bs) in
+      used-lower t l a (subst (λ (x : Term). List·Memᴰ a (x .arguments)) (termAt-termsOf bs t l) m)
+
+  -- no literal record breaks row 6
+  pub sound-literal : (k : ℕ) → k < literalCount ls → SoundLiteral (termCount bs) (literalRecord ls k)
+  sound-literal k h =
+      record {
+        side = one-or-two (byteAt (literalRecord ls k) 0) (λ a b. s .literal k h (side-not-one-or-two a b));
+        kind = one-or-two (byteAt (literalRecord ls k) 1) (λ a b. s .literal k h (kind-not-one-or-two a b));
+        left = in-table (wordAt (literalRecord ls k) 2) left-not-in-table;
+        right = in-table (wordAt (literalRecord ls k) 4) right-not-in-table;
+      }
+    where
+      in-table : (t : ℕ) → (termCount bs ≤ t → LiteralFault (termCount bs) (literalRecord ls k)) → t < termCount bs
+      in-table t f = ⊎-elim (λ (l : t < termCount bs). l) (λ (l : termCount bs ≤ t). absurd (s .literal k h (f l))) (below-or-not t (termCount bs))
+
+  -- the sides of the literals are terms of the table
+  pub sides-within : SidesWithin (termsOf bs) (literalsOf ls)
+  unfolding literalsOf literalOf
+  sides-within l m =
+      let p = Memᴰ·of-map (λ k. literalOf (literalRecord ls k)) (below (literalCount ls)) m in
+      let q = sound-literal (p .0) (below-mem (literalCount ls) (p .1)) in
+      let within : (t : ℕ) → t < termCount bs → t < length (termsOf bs) = λ t. subst (λ (n : ℕ). t < n) (sym (length-termsOf bs)) in
+      subst (λ (x : Literal). (x .left < length (termsOf bs)) × (x .right < length (termsOf bs))) (p .2) (within (wordAt (literalRecord ls (p .0)) 2) (q .left), within (wordAt (literalRecord ls (p .0)) 4) (q .right))

@@ -1,0 +1,101 @@
+-- `sound` meets its contract: the arrays hold the columns of sound tables, so the marks and colours are those of the definitions.
+use Prim.Native.Nat.{_/_}
+use lib.ListN.{length}
+use borrow.Author.Needs.{needs}
+use Rattle.tables.specs.Read.{soundTables}
+use Rattle.tables.specs.declared.Check.the-variants.{Sound}
+use Rattle.tables.proofs.Sound.{sound}
+use Rattle.tables.proofs.Columns.{Columns, columns-lower, columns-within, columns-used, columns-colours}
+use Rattle.tables.proofs.reading.sound.Statement.{statement}
+use Rattle.tables.proofs.reading.sound.Tie as tie
+
+-- the arrays that were read, up to the right sides, hold the columns
+known : (c : tie.After-literal-words2) → Columns (c .before .before .before .before .before .before .before .before .before .args .terms .now) (c .before .before .before .before .before .before .before .before .before .args .literals .now) (c .before .before .before .before .before .before .term-words .result) (c .before .before .before .before .before .term-bytes .result) (c .before .before .before .before .rows .result) (c .before .before .before .literal-bytes .result) (c .before .literal-words .result) (c .literal-words2 .result)
+known c =
+    record {
+      tables = sound (c .before .before .before .before .before .before .before .before .before .args .terms .now) (c .before .before .before .before .before .before .before .before .before .args .literals .now) (c .before .before .before .before .before .before .before .before .before .pre);
+      symbols-read = c .before .before .before .before .before .before .term-words .ensures;
+      arities-read = c .before .before .before .before .before .term-bytes .ensures;
+      rows-read = c .before .before .before .before .rows .ensures;
+      sides-read = c .before .before .before .literal-bytes .ensures;
+      lefts-read = c .before .literal-words .ensures;
+      rights-read = c .literal-words2 .ensures;
+    }
+
+term-words-requires : tie.Need-term-words-requires
+term-words-requires c κs = search needs
+
+term-bytes-requires : tie.Need-term-bytes-requires
+term-bytes-requires c κs = search needs
+
+rows-requires : tie.Need-rows-requires
+rows-requires c κs = search needs
+
+literal-bytes-requires : tie.Need-literal-bytes-requires
+literal-bytes-requires c κs = search needs
+
+literal-bytes-requires-2 : tie.Need-literal-bytes-requires-2
+literal-bytes-requires-2 c κs = search needs
+
+literal-words-requires : tie.Need-literal-words-requires
+literal-words-requires c κs = search needs
+
+literal-words-requires-2 : tie.Need-literal-words-requires-2
+literal-words-requires-2 c κs = search needs
+
+inside-requires : tie.Need-inside-requires
+inside-requires c κs = (columns-lower (c .before .before .before .before .before .before .before .before .before .before .before .before .before .before .args .terms .now) (c .before .before .before .before .before .before .before .before .before .before .before .before .before .before .args .literals .now) (c .before .before .before .before .before .before .before .before .before .before .before .term-words .result) (c .before .before .before .before .before .before .before .before .before .before .term-bytes .result) (c .before .before .before .before .before .before .before .before .before .rows .result) (c .before .before .before .before .before .before .before .before .literal-bytes .result) (c .before .before .before .before .before .before .literal-words .result) (c .before .before .before .before .before .literal-words2 .result) (known (c .before .before .before .before .before)), columns-within (c .before .before .before .before .before .before .before .before .before .before .before .before .before .before .args .terms .now) (c .before .before .before .before .before .before .before .before .before .before .before .before .before .before .args .literals .now) (c .before .before .before .before .before .before .before .before .before .before .before .term-words .result) (c .before .before .before .before .before .before .before .before .before .before .term-bytes .result) (c .before .before .before .before .before .before .before .before .before .rows .result) (c .before .before .before .before .before .before .before .before .literal-bytes .result) (c .before .before .before .before .before .before .literal-words .result) (c .before .before .before .before .before .literal-words2 .result) (known (c .before .before .before .before .before)))
+
+inside-requires-2 : tie.Need-inside-requires-2
+inside-requires-2 c κs = (columns-lower (c .before .before .before .before .before .before .before .before .before .before .before .before .before .before .before .before .before .before .before .before .args .terms .now) (c .before .before .before .before .before .before .before .before .before .before .before .before .before .before .before .before .before .before .before .before .args .literals .now) (c .before .before .before .before .before .before .before .before .before .before .before .before .before .before .before .before .before .term-words .result) (c .before .before .before .before .before .before .before .before .before .before .before .before .before .before .before .before .term-bytes .result) (c .before .before .before .before .before .before .before .before .before .before .before .before .before .before .before .rows .result) (c .before .before .before .before .before .before .before .before .before .before .before .before .before .before .literal-bytes .result) (c .before .before .before .before .before .before .before .before .before .before .before .before .literal-words .result) (c .before .before .before .before .before .before .before .before .before .before .before .literal-words2 .result) (known (c .before .before .before .before .before .before .before .before .before .before .before)), columns-within (c .before .before .before .before .before .before .before .before .before .before .before .before .before .before .before .before .before .before .before .before .args .terms .now) (c .before .before .before .before .before .before .before .before .before .before .before .before .before .before .before .before .before .before .before .before .args .literals .now) (c .before .before .before .before .before .before .before .before .before .before .before .before .before .before .before .before .before .term-words .result) (c .before .before .before .before .before .before .before .before .before .before .before .before .before .before .before .before .term-bytes .result) (c .before .before .before .before .before .before .before .before .before .before .before .before .before .before .before .rows .result) (c .before .before .before .before .before .before .before .before .before .before .before .before .before .before .literal-bytes .result) (c .before .before .before .before .before .before .before .before .before .before .before .before .literal-words .result) (c .before .before .before .before .before .before .before .before .before .before .before .literal-words2 .result) (known (c .before .before .before .before .before .before .before .before .before .before .before)))
+
+in-use-requires : tie.Need-in-use-requires
+in-use-requires c κs = known (c .before .before .before .before .before .before .before .before .before .before .before .before .before .before) .tables .terms-fit
+
+occurring-requires : tie.Need-occurring-requires
+occurring-requires c κs = known (c .before .before .before .before .before .before .before .before .before .before .before .before .before .before .before .before .before) .tables .terms-fit
+
+occurring-requires-2 : tie.Need-occurring-requires-2
+occurring-requires-2 c κs = known (c .before .before .before .before .before .before .before .before .before .before .before .before .before .before .before .before .before .before .before .before) .tables .terms-fit
+
+colours-requires : tie.Need-colours-requires
+colours-requires c κs = (columns-lower (c .before .before .before .before .before .before .before .before .before .before .before .before .before .before .before .before .before .before .before .before .before .before .before .before .before .before .before .before .before .before .before .before .before .before .args .terms .now) (c .before .before .before .before .before .before .before .before .before .before .before .before .before .before .before .before .before .before .before .before .before .before .before .before .before .before .before .before .before .before .before .before .before .before .args .literals .now) (c .before .before .before .before .before .before .before .before .before .before .before .before .before .before .before .before .before .before .before .before .before .before .before .before .before .before .before .before .before .before .before .term-words .result) (c .before .before .before .before .before .before .before .before .before .before .before .before .before .before .before .before .before .before .before .before .before .before .before .before .before .before .before .before .before .before .term-bytes .result) (c .before .before .before .before .before .before .before .before .before .before .before .before .before .before .before .before .before .before .before .before .before .before .before .before .before .before .before .before .before .rows .result) (c .before .before .before .before .before .before .before .before .before .before .before .before .before .before .before .before .before .before .before .before .before .before .before .before .before .before .before .before .literal-bytes .result) (c .before .before .before .before .before .before .before .before .before .before .before .before .before .before .before .before .before .before .before .before .before .before .before .before .before .before .literal-words .result) (c .before .before .before .before .before .before .before .before .before .before .before .before .before .before .before .before .before .before .before .before .before .before .before .before .before .literal-words2 .result) (known (c .before .before .before .before .before .before .before .before .before .before .before .before .before .before .before .before .before .before .before .before .before .before .before .before .before)), known (c .before .before .before .before .before .before .before .before .before .before .before .before .before .before .before .before .before .before .before .before .before .before .before .before .before) .tables .terms-fit)
+
+returns : tie.Need-returns
+unfolding soundTables
+returns c =
+    let used = columns-used (c .before .before .before .before .before .before .before .before .before .before .before .before .before .before .before .before .before .before .before .before .before .before .before .before .before .before .before .before .before .before .before .before .before .before .before .args .terms .now) (c .before .before .before .before .before .before .before .before .before .before .before .before .before .before .before .before .before .before .before .before .before .before .before .before .before .before .before .before .before .before .before .before .before .before .before .args .literals .now) (c .before .before .before .before .before .before .before .before .before .before .before .before .before .before .before .before .before .before .before .before .before .before .before .before .before .before .before .before .before .before .before .before .term-words .result) (c .before .before .before .before .before .before .before .before .before .before .before .before .before .before .before .before .before .before .before .before .before .before .before .before .before .before .before .before .before .before .before .term-bytes .result) (c .before .before .before .before .before .before .before .before .before .before .before .before .before .before .before .before .before .before .before .before .before .before .before .before .before .before .before .before .before .before .rows .result) (c .before .before .before .before .before .before .before .before .before .before .before .before .before .before .before .before .before .before .before .before .before .before .before .before .before .before .before .before .before .literal-bytes .result) (c .before .before .before .before .before .before .before .before .before .before .before .before .before .before .before .before .before .before .before .before .before .before .before .before .before .before .before .literal-words .result) (c .before .before .before .before .before .before .before .before .before .before .before .before .before .before .before .before .before .before .before .before .before .before .before .before .before .before .literal-words2 .result) (known (c .before .before .before .before .before .before .before .before .before .before .before .before .before .before .before .before .before .before .before .before .before .before .before .before .before .before)) (c .before .before .before .before .before .before .before .before .before .before .before .before .before .before .before .before .before .before .before .before .inside .result) (c .before .before .before .before .before .before .before .before .before .before .before .before .before .before .inside2 .result) (c .before .before .before .before .before .before .before .before .before .before .before .before .before .before .before .before .before .before .before .before .inside .ensures) (c .before .before .before .before .before .before .before .before .before .before .before .before .before .before .inside2 .ensures) (c .before .before .before .before .before .before .before .before .before .before .before .in-use .result) (c .before .before .before .before .before .before .before .before .before .before .before .in-use .ensures) in
+    let colours = columns-colours (c .before .before .before .before .before .before .before .before .before .before .before .before .before .before .before .before .before .before .before .before .before .before .before .before .before .before .before .before .before .before .before .before .before .before .before .args .terms .now) (c .before .before .before .before .before .before .before .before .before .before .before .before .before .before .before .before .before .before .before .before .before .before .before .before .before .before .before .before .before .before .before .before .before .before .before .args .literals .now) (c .before .before .before .before .before .before .before .before .before .before .before .before .before .before .before .before .before .before .before .before .before .before .before .before .before .before .before .before .before .before .before .before .term-words .result) (c .before .before .before .before .before .before .before .before .before .before .before .before .before .before .before .before .before .before .before .before .before .before .before .before .before .before .before .before .before .before .before .term-bytes .result) (c .before .before .before .before .before .before .before .before .before .before .before .before .before .before .before .before .before .before .before .before .before .before .before .before .before .before .before .before .before .before .rows .result) (c .before .before .before .before .before .before .before .before .before .before .before .before .before .before .before .before .before .before .before .before .before .before .before .before .before .before .before .before .before .literal-bytes .result) (c .before .before .before .before .before .before .before .before .before .before .before .before .before .before .before .before .before .before .before .before .before .before .before .before .before .before .before .literal-words .result) (c .before .before .before .before .before .before .before .before .before .before .before .before .before .before .before .before .before .before .before .before .before .before .before .before .before .before .literal-words2 .result) (known (c .before .before .before .before .before .before .before .before .before .before .before .before .before .before .before .before .before .before .before .before .before .before .before .before .before .before)) (c .before .before .before .before .before .before .before .before .before .before .before .before .before .before .before .before .before .before .before .before .inside .result) (c .before .before .before .before .before .before .before .before .before .before .before .before .before .before .inside2 .result) (c .before .before .before .before .before .before .before .before .before .before .before .before .before .before .before .before .before .before .before .before .inside .ensures) (c .before .before .before .before .before .before .before .before .before .before .before .before .before .before .inside2 .ensures) (c .before .before .before .before .before .before .before .before .occurring .result) (c .before .before .before .before .before .occurring2 .result) (c .colours .result) (c .before .before .before .before .before .before .before .before .occurring .ensures) (c .before .before .before .before .before .occurring2 .ensures) (c .colours .ensures) in
+    λ i.
+    record {
+      check = Sound;
+      terms = length (c .before .before .before .before .before .before .before .before .before .before .before .before .before .before .before .before .before .before .before .before .before .before .before .before .before .before .before .before .before .before .before .before .before .before .before .args .terms .now) / 16;
+      literals = length (c .before .before .before .before .before .before .before .before .before .before .before .before .before .before .before .before .before .before .before .before .before .before .before .before .before .before .before .before .before .before .before .before .before .before .before .args .literals .now) / 8;
+      symbols = c .before .before .before .before .before .before .before .before .before .before .before .before .before .before .before .before .before .before .before .before .before .before .before .before .before .before .before .before .before .before .before .before .term-words .ensures i;
+      arities = c .before .before .before .before .before .before .before .before .before .before .before .before .before .before .before .before .before .before .before .before .before .before .before .before .before .before .before .before .before .before .before .term-bytes .ensures i;
+      used = used i;
+      colours = colours i;
+      sides = c .before .before .before .before .before .before .before .before .before .before .before .before .before .before .before .before .before .before .before .before .before .before .before .before .before .before .before .before .before .literal-bytes .ensures i;
+      kinds = c .before .before .before .before .before .before .before .before .before .before .before .before .before .before .before .before .before .before .before .before .before .before .before .before .before .before .before .before .literal-bytes2 .ensures i;
+      lefts = c .before .before .before .before .before .before .before .before .before .before .before .before .before .before .before .before .before .before .before .before .before .before .before .before .before .before .before .literal-words .ensures i;
+      rights = c .before .before .before .before .before .before .before .before .before .before .before .before .before .before .before .before .before .before .before .before .before .before .before .before .before .before .literal-words2 .ensures i;
+    }
+
+pub sound-spec : {M : Type 1} → statement M
+sound-spec =
+    tie.close
+    (tie.spec
+    term-words-requires
+    term-bytes-requires
+    rows-requires
+    literal-bytes-requires
+    literal-bytes-requires-2
+    literal-words-requires
+    literal-words-requires-2
+    inside-requires
+    inside-requires-2
+    in-use-requires
+    occurring-requires
+    occurring-requires-2
+    colours-requires
+    returns)

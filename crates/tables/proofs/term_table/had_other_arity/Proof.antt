@@ -1,0 +1,50 @@
+-- `tables::term_table::had_other_arity` meets its contract. The invariant: no record passed has the symbol with another arity. The measure is what is left of them.
+use Prim.Native.Nat.{_-_}
+use native.Mathlib.Omega.{arith}
+use Rattle.tables.specs.TermTable.{otherArity, hadOtherArity}
+use Rattle.tables.proofs.Records.{NoneYet, none-yet, some-passed, none-more, none-passed}
+use Rattle.tables.proofs.term_table.had_other_arity.Statement.{statement}
+use Rattle.tables.proofs.term_table.had_other_arity.Tie as tie
+
+abbrev Inv-loop : tie.InvT-loop
+Inv-loop terms k j₀ j = NoneYet (otherArity terms k) k j
+
+abbrev μ-loop : tie.MeasureT-loop
+μ-loop terms k j₀ j = k - j
+
+loop-holds : tie.Need-loop-holds Inv-loop μ-loop
+loop-holds c = none-yet _ _
+
+other-arity-requires : tie.Need-other-arity-requires Inv-loop μ-loop
+other-arity-requires c κs = omega arith
+
+returns : tie.Need-returns Inv-loop μ-loop
+unfolding hadOtherArity
+returns c = some-passed _ _ _ _ (c .before .before .loop-test .taken) (c .before .other-arity .ensures) (c .if1 .taken)
+
+add-j : tie.Need-add-j Inv-loop μ-loop
+add-j c = omega arith
+
+loop-less : tie.Need-loop-less Inv-loop μ-loop
+loop-less c = omega arith
+
+loop-again : tie.Need-loop-again Inv-loop μ-loop
+loop-again c = none-more _ _ _ _ (c .before .before .before .loop .inv) (c .before .before .loop-test .taken) (c .before .other-arity .ensures) (c .if1 .left)
+
+returns-2 : tie.Need-returns-2 Inv-loop μ-loop
+unfolding hadOtherArity
+returns-2 c = none-passed _ _ _ (c .before .loop .inv) (c .loop-test .left)
+
+pub had-other-arity-spec : {M : Type 1} → statement M
+had-other-arity-spec =
+    tie.close
+    (tie.spec
+    Inv-loop
+    μ-loop
+    loop-holds
+    other-arity-requires
+    returns
+    add-j
+    loop-less
+    loop-again
+    returns-2)
