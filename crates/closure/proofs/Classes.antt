@@ -13,7 +13,7 @@ use Rattle.tables.specs.LiteralTable.{Kind, equal, different, Literal}
 use Rattle.tables.specs.declared.Side.{Side}
 use Rattle.tables.specs.declared.Side.the-variants.{A, B}
 use Rattle.tables.specs.Colours.{inUse}
-use Rattle.tables.specs.Interpretations.{Interpretation, Finite, value, HoldsAs, Holds, Satisfies, SatisfiesEqualities}
+use Rattle.tables.specs.Interpretations.{Interpretation, Finite, value, HoldsAs, Holds, Satisfies, SatisfiesEqualities, Satisfiable, FinitelySatisfiable, Entailed, FinitelyEntailed}
 use Rattle.tables.proofs.Words.{passes, passed}
 use Rattle.tables.proofs.Terms.{lower-append, value-append}
 use Rattle.tables.proofs.Colours.{SidesWithin, left-inUse, right-inUse, inUse-within}
@@ -56,22 +56,6 @@ holds-different I ts l e h = subst (λ (k : Kind). HoldsAs I ts k (l .left) (l .
 abbrev pub Apart : List Literal → Graph → Type 0
 Apart ls G = (l : Literal) → List·Memᴰ l ls → l .kind ≡ different → T (joined G (l .left) (l .right)) → ⊥
 
--- some interpretation satisfies all literals
-abbrev pub Consistent : List Term → List Literal → Type 1
-Consistent ts ls = (I : Interpretation) × Satisfies I ts ls A × Satisfies I ts ls B
-
--- some finite one does
-abbrev pub FinitelyConsistent : List Term → List Literal → Type 1
-FinitelyConsistent ts ls = (I : Interpretation) × Finite I × Satisfies I ts ls A × Satisfies I ts ls B
-
--- every interpretation that satisfies the equalities gives the two terms one value
-abbrev pub Entailed : List Term → List Literal → ℕ → ℕ → Type 1
-Entailed ts ls u v = (I : Interpretation) → SatisfiesEqualities I ts ls → value I ts u ≡ value I ts v
-
--- every finite one does
-abbrev pub FinitelyEntailed : List Term → List Literal → ℕ → ℕ → Type 1
-FinitelyEntailed ts ls u v = (I : Interpretation) → Finite I → SatisfiesEqualities I ts ls → value I ts u ≡ value I ts v
-
 -- ---- what is joined is what is entailed
 
 -- what a state at which no step is left has: arguments are lower and are vertices, and equal sides and congruent vertices are joined
@@ -101,7 +85,7 @@ module _ (ts : List Term) (ls : List Literal) (st : State) (sides : SidesWithin 
   entailed-classes u v h k = entailed-joined ts (st .added) ls (ended .lower) (st .graph) (vertex ts ls st) (vertex-within ts ls st) (ended .closed) (ended .congruents) sides sides-vertex (ended .equals) u v (used-given u h) (used-given v k) (used-vertex u h) (used-vertex v k)
 
   -- and where no disequality has its sides joined, a finite interpretation satisfies all literals
-  pub apart-consistent : Apart ls (st .graph) → FinitelyConsistent ts ls
+  pub apart-consistent : Apart ls (st .graph) → FinitelySatisfiable ts ls
   apart-consistent apart =
       let satisfies = model-satisfies ts (st .added) ls (ended .lower) (st .graph) (vertex ts ls st) (vertex-within ts ls st) (ended .closed) (ended .congruents) sides sides-vertex (ended .equals) apart in
       (model (tableOf ts st) (st .graph) (vertex ts ls st), model-finite (tableOf ts st) (st .graph) (vertex ts ls st), satisfies A, satisfies B)
@@ -122,16 +106,16 @@ module _ (ts : List Term) (ls : List Literal) (st : State) (sides : SidesWithin 
     joined-finitely u v h k = (λ j I i. sound u v h k j I, entailed-classes u v h k)
 
     -- what satisfies all literals keeps the sides of each disequality apart
-    pub consistent-apart : Consistent ts ls → Apart ls (st .graph)
+    pub consistent-apart : Satisfiable ts ls → Apart ls (st .graph)
     consistent-apart c l m e j =
         let low = lower-append ts (st .added) (ended .lower) in
         let holds = satisfies-all (c .0) ts ls (c .1) (c .2) in
         holds-different (c .0) ts l e (holds l m) (sound (l .left) (l .right) (left-inUse ts ls low sides l m) (right-inUse ts ls low sides l m) j (c .0) (λ g n q. holds g n))
 
     -- no disequality has its sides joined exactly when some interpretation satisfies all literals
-    pub apart-exact : Apart ls (st .graph) ↔ Consistent ts ls
+    pub apart-exact : Apart ls (st .graph) ↔ Satisfiable ts ls
     apart-exact = (λ a. let c = apart-consistent a in (c .0, c .2, c .3), consistent-apart)
 
     -- and exactly when some finite one does
-    pub apart-finitely : Apart ls (st .graph) ↔ FinitelyConsistent ts ls
+    pub apart-finitely : Apart ls (st .graph) ↔ FinitelySatisfiable ts ls
     apart-finitely = (apart-consistent, λ c. consistent-apart (c .0, c .2, c .3))

@@ -19,3 +19,4 @@ pub mod OwnRun
 pub mod FewSteps
 pub mod Model
 pub mod Classes
+pub mod AllRuns

@@ -4,7 +4,7 @@ use mathlib.Core.List.{List, List·Memᴰ}
 use mathlib.Core.Path.{_≡_}
 use Prim.Native.Nat.{ℕ}
 use Rattle.tables.specs.Terms.{Term, down}
-use Rattle.tables.specs.LiteralTable.{Side, Kind, equal, different, Literal}
+use Rattle.tables.specs.LiteralTable.{Side, A, B, Kind, equal, different, Literal}
 
 -- The domain is a part of a carrier. It has a member, and no function leads out of it.
 pub record Interpretation : Type 1 where
@@ -39,3 +39,19 @@ Satisfies I ts ls X = (l : Literal) → List·Memᴰ l ls → l .side ≡ X → 
 -- the interpretation satisfies the equalities: every literal of kind 1 holds, of either side
 abbrev pub SatisfiesEqualities : (I : Interpretation) → List Term → List Literal → Type 0
 SatisfiesEqualities I ts ls = (l : Literal) → List·Memᴰ l ls → l .kind ≡ equal → Holds I ts l
+
+-- some interpretation satisfies A and B
+abbrev pub Satisfiable : List Term → List Literal → Type 1
+Satisfiable ts ls = (I : Interpretation) × Satisfies I ts ls A × Satisfies I ts ls B
+
+-- "some interpretation over a finite, non-empty domain satisfies A and B"
+abbrev pub FinitelySatisfiable : List Term → List Literal → Type 1
+FinitelySatisfiable ts ls = (I : Interpretation) × Finite I × Satisfies I ts ls A × Satisfies I ts ls B
+
+-- "every interpretation that satisfies the equalities gives them one value"
+abbrev pub Entailed : List Term → List Literal → ℕ → ℕ → Type 1
+Entailed ts ls u v = (I : Interpretation) → SatisfiesEqualities I ts ls → value I ts u ≡ value I ts v
+
+-- the same of the interpretations over a finite domain alone
+abbrev pub FinitelyEntailed : List Term → List Literal → ℕ → ℕ → Type 1
+FinitelyEntailed ts ls u v = (I : Interpretation) → Finite I → SatisfiesEqualities I ts ls → value I ts u ≡ value I ts v
