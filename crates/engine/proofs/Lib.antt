@@ -2,3 +2,4 @@
 pub mod Bench
 pub mod AddedTerms
 pub mod Ways
+pub mod Partition
