@@ -1,5 +1,6 @@
 -- "One pair of ends is one factor with one premise set": the summary has one clause for a conclusion, over terms of the table. So what its records
 -- say is what the summary says, and the interpolation theorem is one of the bytes that are written.
+use mathlib.Core.Bool.{Bool}
 use mathlib.Core.List.{List, [], _∷_, _++_, flatMap, append-assoc, append-nil, List·Memᴰ, List·Memᴰ·head, List·Memᴰ·tail, List·Memᴰ·not-nil, List·Memᴰ·eq-of-singleton}
 use mathlib.Core.Logic.{_⊎_, inl, inr, ⊎-elim, _↔_}
 use mathlib.Core.Path.{_≡_, refl, sym, ap, subst, _∙_}
@@ -156,3 +157,136 @@ module _ (ts : List Term) (ls : List Literal) (table : List Term) where
         premises-within = λ q m. premise-sound q s (path-is G (o .of .left) (o .of .right) (o .connected)) (o .premises-are q .0 m) .0;
         conclusion-within = subst (ConclusionWithin (length table)) (sym (o .concluded)) (o .of-within);
       }
+
+-- a clause that comes from a path is not of kind 3 or 4
+of-path-kind : {table : List Term} {G : Graph} {c : Clause} → OfPath table G c → T (isLast (c .conclusion)) → ⊥
+unfolding isLast
+of-path-kind o h = subst (λ (k : Conclusion). T (isLast k)) (o .concluded) h
+
+-- two such clauses with one conclusion have the same premises: those of the path between the ends
+of-path-agree : {table : List Term} {G : Graph} {c d : Clause} → OfPath table G c → OfPath table G d → c .conclusion ≡ d .conclusion → (q : Pair) → List·Memᴰ q (c .premises) → List·Memᴰ q (d .premises)
+of-path-agree {table} {G} o p e q m =
+    let same : o .of ≡ p .of = cc (o .concluded, p .concluded) in
+    p .premises-are q .1 (subst (λ (x : Pair). Premise table q (path G (x .left) (x .right))) same (o .premises-are q .0 m))
+
+module _ (ts : List Term) (ls : List Literal) (table : List Term) (G : Graph) (sound : SoundGraph ts ls table G) where
+  -- clauses that come from paths, and beside them at most this one of kind 3 or 4, are one for each conclusion
+  paths-one-each : (cs : List Clause) (last : Clause) → T (isLast (last .conclusion)) → ClauseWithin (length table) last → ((c : Clause) → List·Memᴰ c cs → OfPath table G c ⊎ (c ≡ last)) → OneEach (length table) cs
+  paths-one-each cs last kind last-within of =
+      record {
+        within = λ c m. ⊎-elim (of-path-within ts ls table sound) (λ e. subst (ClauseWithin (length table)) (sym e) last-within) (of c m);
+        agree = λ c d m k e q. agree c d (of c m) (of d k) e q;
+        lasts = λ c d m k h l. ap (λ (x : Clause). x .conclusion) (is c (of c m) h ∙ sym (is d (of d k) l));
+      }
+    where
+      is : (c : Clause) → OfPath table G c ⊎ (c ≡ last) → T (isLast (c .conclusion)) → c ≡ last
+      is c (inl o) h = absurd (of-path-kind o h)
+      is c (inr e) h = e
+
+      kind-of : (c : Clause) → c ≡ last → T (isLast (c .conclusion))
+      kind-of c e = subst (λ (x : Clause). T (isLast (x .conclusion))) (sym e) kind
+
+      agree : (c d : Clause) → OfPath table G c ⊎ (c ≡ last) → OfPath table G d ⊎ (d ≡ last) → c .conclusion ≡ d .conclusion → (q : Pair) → List·Memᴰ q (c .premises) → List·Memᴰ q (d .premises)
+      agree c d (inl o) (inl p) e q m = of-path-agree o p e q m
+      agree c d (inl o) (inr p) e q m = absurd (of-path-kind o (subst (λ (k : Conclusion). T (isLast k)) (sym e) (kind-of d p)))
+      agree c d (inr o) (inl p) e q m = absurd (of-path-kind p (subst (λ (k : Conclusion). T (isLast k)) e (kind-of c o)))
+      agree c d (inr o) (inr p) e q m = subst (λ (x : Clause). List·Memᴰ q (x .premises)) (o ∙ sym p) m
+
+  -- "not [middle]" of a path speaks of two terms of the table, or is false
+  middle-within : {u v : ℕ} (π : Path) → IsPath G u v π → ConclusionWithin (length table) (notMiddle π)
+  unfolding notMiddle
+  middle-within [] p = tt
+  middle-within {u} {v} (h ∷ π) p = subst (PairWithin (length table)) (ends (p .walk)) (ends-within ts ls table sound p)
+    where
+      ends : Walk G u v (h ∷ π) → between u v ≡ between (h .from) (endOf (h .to) π)
+      ends (hop k q w) = λ i. between (q i) (sym (walk-end w) i)
+
+  -- it is of kind 3 or 4
+  middle-kind : (π : Path) → T (isLast (notMiddle π))
+  unfolding notMiddle isLast
+  middle-kind [] = tt
+  middle-kind (h ∷ π) = tt
+
+  -- the clauses of a disequality in A are one for each conclusion
+  readA-one-each : (inB : ℕ → Bool) (u v : ℕ) → T (joined G u v) → (z : Stretches) → Divided inB G u v (path G u v) z → OneEach (length table) (readA ts ls table G z)
+  readA-one-each inB u v j z div =
+      paths-one-each (readA ts ls table G z) (lastClause ts ls table G z) (middle-kind (z .middle))
+      (record { premises-within = λ p m. outer p m .0; conclusion-within = middle-within (z .middle) middle-is })
+      (λ c m. go c (readA-mem ts ls table G z c m))
+    where
+      whole-is : IsPath G u v (z .before ++ (z .middle ++ z .after))
+      whole-is = subst (IsPath G u v) (sym (div .whole)) (path-is G u v j)
+
+      before-is : IsPath G u (div .first) (z .before)
+      before-is = stretch-is [] (z .before) (z .middle ++ z .after) whole-is (div .before-walk)
+
+      middle-is : IsPath G (div .first) (div .last) (z .middle)
+      middle-is = stretch-is (z .before) (z .middle) (z .after) whole-is (div .middle-walk)
+
+      after-is : IsPath G (div .last) v (z .after)
+      after-is = stretch-is (z .before ++ z .middle) (z .after) [] (subst (IsPath G u v) (sym (append-assoc (z .before) (z .middle) (z .after)) ∙ ap (λ (τ : Path). (z .before ++ z .middle) ++ τ) (sym (append-nil (z .after)))) whole-is) (div .after-walk)
+
+      outer : (p : Pair) → List·Memᴰ p (outerPremises ts ls table G z) → PairWithin (length table) p × T (joined G (p .left) (p .right))
+      outer p m =
+          ⊎-elim (λ k. premise-sound ts ls table p sound before-is (premise-meaning table (length G) p (z .before) k))
+          (λ k. premise-sound ts ls table p sound after-is (premise-meaning table (length G) p (z .after) k))
+          (outer-cases ts ls table G z m)
+
+      go : (c : Clause) → ReadingA ts ls table G z c → OfPath table G c ⊎ (c ≡ lastClause ts ls table G z)
+      go c (of-middle k) = inl (listed-of-path ts ls table c sound middle-is k)
+      go c (of-outer {p = p} k x) = inl (listed-of-path ts ls table c sound (path-is G (p .left) (p .right) (outer p k .1)) x)
+      go c (of-last e) = inr e
+
+  -- so are those of a disequality in B, and those of one on either side: "One pair of ends is one factor with one premise set"
+  pub read-one-each : (X : Side) (u v : ℕ) → T (joined G u v) → OneEach (length table) (readBetween ts ls table G X u v)
+  unfolding readBetween isLast
+  read-one-each A u v j =
+      let inB = colourable ts ls B table in
+      readA-one-each inB u v j (stretches inB u (path G u v)) (stretches-divided inB G v u (path G u v) (path-is G u v j .walk))
+  read-one-each B u v j =
+      paths-one-each (pathClauses (length G) table (path G u v)) (record { premises = []; conclusion = falsum }) tt
+      (record { premises-within = λ p m. absurd (List·Memᴰ·not-nil m); conclusion-within = tt })
+      (λ c m. inl (listed-of-path ts ls table c sound (path-is G u v j) m))
+
+-- ---- what a reader believes, in a graph
+
+module _ (ts : List Term) (ls : List Literal) (table : List Term) (G : Graph) (u v : ℕ) where
+  -- "Premises of a path": the list of the path between two terms of the graph holds these alone, and all of them
+  pub premisesIn-mean : (p : Pair) → List·Memᴰ p (premisesIn ts ls table G (path G u v)) ↔ Premise table p (path G u v)
+  premisesIn-mean p = premises-mean table (length G) p (path G u v) (path-enough G u v)
+
+  -- "Path clauses": what the list holds is one of them
+  pub clausesIn-meaning : (c : Clause) → List·Memᴰ c (clausesIn ts ls table G (path G u v)) → PathClause table c (path G u v)
+  clausesIn-meaning c m = clause-meaning table (length G) c (path G u v) (path-enough G u v) m
+
+  -- and each of them stands in it, with the same premises in whatever order
+  pub clausesIn-listed : (c : Clause) → PathClause table c (path G u v) → Listed c (clausesIn ts ls table G (path G u v))
+  clausesIn-listed c x = clause-listed table (length G) c (path-enough G u v) x
+
+-- ---- the theorem on what is written
+
+module _ (ts more : List Term) (ls : List Literal) (low : LowerArguments (ts ++ more)) (within : SidesWithin ts ls) (G : Graph) (sound : SoundGraph ts ls (ts ++ more) G) (l : Literal) (stands : List·Memᴰ l ls) (differ : l .kind ≡ different) (meet : T (joined G (l .left) (l .right))) where
+  -- the summary has one clause for a conclusion, over terms of the table
+  pub summary-one-each : OneEach (length (ts ++ more)) (summary ts ls (ts ++ more) G l)
+  unfolding summary
+  summary-one-each = read-one-each ts ls (ts ++ more) G sound (l .side) (l .left) (l .right) meet
+
+  module _ (fits : length (ts ++ more) ≤ 65536) (rest : List ℕ) where
+    -- the clauses that a reader gets from the bytes of the records, whatever follows them
+    abbrev pub writtenClauses : List Clause
+    writtenClauses =
+        let n = length (ts ++ more) in
+        let cs = summary ts ls (ts ++ more) G l in
+        clausesRead (length (clauseRecords n cs)) (clauseBytes n cs ++ rest)
+
+    -- they use only shared symbols
+    pub written-shared : (c : Clause) → List·Memᴰ c writtenClauses → SharedClause ts ls (ts ++ more) c
+    written-shared = bytes-shared (length (ts ++ more)) (summary ts ls (ts ++ more) G l) rest fits (λ c m h. summary-one-each .within c m .conclusion-within) ts ls (ts ++ more) (summary-shared ts more ls low within G sound l stands differ meet)
+
+    -- every interpretation that satisfies A makes each of them true
+    pub written-A : (I : Interpretation) → Satisfies I ts ls A → TrueClauses I (ts ++ more) writtenClauses
+    written-A I holds = bytes-true (length (ts ++ more)) (summary ts ls (ts ++ more) G l) rest fits summary-one-each I (ts ++ more) .0 (summary-A ts more ls low within G sound l stands differ meet I holds)
+
+    -- no interpretation that satisfies B makes all of them true
+    pub written-B : (I : Interpretation) → Satisfies I ts ls B → TrueClauses I (ts ++ more) writtenClauses → ⊥
+    written-B I holds given = summary-B ts more ls low within G sound l stands differ meet I holds (bytes-true (length (ts ++ more)) (summary ts ls (ts ++ more) G l) rest fits summary-one-each I (ts ++ more) .1 given)
