@@ -28,17 +28,17 @@ use Rattle.clauses.specs.Clauses.{between, Clause, Conclusion, equals, d
 use Rattle.clauses.specs.Factors.{Factor, factors}
 use Rattle.clauses.specs.Premises.{endsOf, premises, pathClauses, Premise, own, parent, ListsPremises, PathClause, inside, whole, under}
 use Rattle.clauses.specs.Reading.{Stretches, endOf, stretches, notMiddle, outerPremises, premisesIn, clausesIn, readA, readBetween, summary}
-use Rattle.clauses.specs.Records.{isLast, clauseRecords}
+use Rattle.clauses.specs.Records.{isLast, inOrder, clauseRecords}
 use Rattle.clauses.specs.ReadBack.{clausesRead}
 use Rattle.clauses.specs.Truth.{TrueClauses, SharedClause}
 use Rattle.clauses.proofs.Factors.{Stretch, last-one, allHops, factors-whole, factors-stretch, longest-factors, factor-hop, factor-walk}
 use Rattle.clauses.proofs.Truths.{factor-hopOf, older-sound}
 use Rattle.clauses.proofs.Shared.{walk-carries}
 use Rattle.clauses.proofs.Stretches.{Divided, stretches-divided, walk-end}
-use Rattle.clauses.proofs.Meaning.{Enough, path-enough, Listed, premise-meaning, premises-mean, clause-meaning, clause-listed}
-use Rattle.clauses.proofs.Interpolation.{lastClause, outer-cases, ReadingA, of-middle, of-outer, of-last, readA-mem, summary-shared, summary-A, summary-B}
-use Rattle.clauses.proofs.Order.{PairWithin, ConclusionWithin, ClauseWithin, ClausesWithin, OneEach, between-either, between-within}
-use Rattle.clauses.proofs.Records.{clauseBytes, bytes-true, bytes-shared}
+use Rattle.clauses.proofs.Meaning.{Enough, path-enough, Listed, premise-meaning, premise-listed, premises-mean, clause-meaning, clause-listed}
+use Rattle.clauses.proofs.Interpolation.{lastClause, outer-cases, outer-before, outer-after, ReadingA, of-middle, of-outer, of-last, readA-mem, summary-shared, summary-A, summary-B}
+use Rattle.clauses.proofs.Order.{PairWithin, ConclusionWithin, ClauseWithin, ClausesWithin, OneEach, SameClause, SaidBy, ascending-mem, mem-ascending, all-standing, standing-exactly, between-either, between-within}
+use Rattle.clauses.proofs.Records.{clauseBytes, read-back-bytes, bytes-true, bytes-shared}
 use Rattle.clauses.proofs.Backwards.{premise-other-end}
 
 -- ---- factors of a path
@@ -169,24 +169,40 @@ of-path-agree {table} {G} o p e q m =
     let same : o .of ≡ p .of = cc (o .concluded, p .concluded) in
     p .premises-are q .1 (subst (λ (x : Pair). Premise table q (path G (x .left) (x .right))) same (o .premises-are q .0 m))
 
+-- clauses that come from paths of the graph, and beside them at most one, of kind 3 or 4, over terms of the table
+pub record FromPaths (table : List Term) (G : Graph) (cs : List Clause) : Type 0 where
+  pub last : Clause
+  pub last-kind : T (isLast (last .conclusion))
+  pub last-within : ClauseWithin (length table) last
+  pub each : (c : Clause) → List·Memᴰ c cs → OfPath table G c ⊎ (c ≡ last)
+
+-- of these, a clause that concludes an equality has the premises of the path between its ends
+from-paths-premises : {table : List Term} {G : Graph} {cs : List Clause} → FromPaths table G cs → {c : Clause} {p : Pair} → List·Memᴰ c cs → c .conclusion ≡ equals p → (q : Pair) → List·Memᴰ q (c .premises) ↔ Premise table q (path G (p .left) (p .right))
+unfolding isLast
+from-paths-premises {table} {G} from {c} {p} m e q = go (from .each c m)
+  where
+    go : OfPath table G c ⊎ (c ≡ from .last) → List·Memᴰ q (c .premises) ↔ Premise table q (path G (p .left) (p .right))
+    go (inl o) = let same : o .of ≡ p = cc (o .concluded) in subst (λ (x : Pair). List·Memᴰ q (c .premises) ↔ Premise table q (path G (x .left) (x .right))) same (o .premises-are q)
+    go (inr d) = absurd (subst (λ (k : Conclusion). T (isLast k)) (ap (λ (x : Clause). x .conclusion) (sym d) ∙ e) (from .last-kind))
+
 module _ (ts : List Term) (ls : List Literal) (table : List Term) (G : Graph) (sound : SoundGraph ts ls table G) where
-  -- clauses that come from paths, and beside them at most this one of kind 3 or 4, are one for each conclusion
-  paths-one-each : (cs : List Clause) (last : Clause) → T (isLast (last .conclusion)) → ClauseWithin (length table) last → ((c : Clause) → List·Memᴰ c cs → OfPath table G c ⊎ (c ≡ last)) → OneEach (length table) cs
-  paths-one-each cs last kind last-within of =
+  -- such clauses are one for each conclusion
+  from-paths-one-each : {cs : List Clause} → FromPaths table G cs → OneEach (length table) cs
+  from-paths-one-each from =
       record {
-        within = λ c m. ⊎-elim (of-path-within ts ls table sound) (λ e. subst (ClauseWithin (length table)) (sym e) last-within) (of c m);
-        agree = λ c d m k e q. agree c d (of c m) (of d k) e q;
-        lasts = λ c d m k h l. ap (λ (x : Clause). x .conclusion) (is c (of c m) h ∙ sym (is d (of d k) l));
+        within = λ c m. ⊎-elim (of-path-within ts ls table sound) (λ e. subst (ClauseWithin (length table)) (sym e) (from .last-within)) (from .each c m);
+        agree = λ c d m k e q. agree c d (from .each c m) (from .each d k) e q;
+        lasts = λ c d m k h l. ap (λ (x : Clause). x .conclusion) (is c (from .each c m) h ∙ sym (is d (from .each d k) l));
       }
     where
-      is : (c : Clause) → OfPath table G c ⊎ (c ≡ last) → T (isLast (c .conclusion)) → c ≡ last
+      is : (c : Clause) → OfPath table G c ⊎ (c ≡ from .last) → T (isLast (c .conclusion)) → c ≡ from .last
       is c (inl o) h = absurd (of-path-kind o h)
       is c (inr e) h = e
 
-      kind-of : (c : Clause) → c ≡ last → T (isLast (c .conclusion))
-      kind-of c e = subst (λ (x : Clause). T (isLast (x .conclusion))) (sym e) kind
+      kind-of : (c : Clause) → c ≡ from .last → T (isLast (c .conclusion))
+      kind-of c e = subst (λ (x : Clause). T (isLast (x .conclusion))) (sym e) (from .last-kind)
 
-      agree : (c d : Clause) → OfPath table G c ⊎ (c ≡ last) → OfPath table G d ⊎ (d ≡ last) → c .conclusion ≡ d .conclusion → (q : Pair) → List·Memᴰ q (c .premises) → List·Memᴰ q (d .premises)
+      agree : (c d : Clause) → OfPath table G c ⊎ (c ≡ from .last) → OfPath table G d ⊎ (d ≡ from .last) → c .conclusion ≡ d .conclusion → (q : Pair) → List·Memᴰ q (c .premises) → List·Memᴰ q (d .premises)
       agree c d (inl o) (inl p) e q m = of-path-agree o p e q m
       agree c d (inl o) (inr p) e q m = absurd (of-path-kind o (subst (λ (k : Conclusion). T (isLast k)) (sym e) (kind-of d p)))
       agree c d (inr o) (inl p) e q m = absurd (of-path-kind p (subst (λ (k : Conclusion). T (isLast k)) e (kind-of c o)))
@@ -207,12 +223,15 @@ module _ (ts : List Term) (ls : List Literal) (table : List Term) (G : Graph) (s
   middle-kind [] = tt
   middle-kind (h ∷ π) = tt
 
-  -- the clauses of a disequality in A are one for each conclusion
-  readA-one-each : (inB : ℕ → Bool) (u v : ℕ) → T (joined G u v) → (z : Stretches) → Divided inB G u v (path G u v) z → OneEach (length table) (readA ts ls table G z)
-  readA-one-each inB u v j z div =
-      paths-one-each (readA ts ls table G z) (lastClause ts ls table G z) (middle-kind (z .middle))
-      (record { premises-within = λ p m. outer p m .0; conclusion-within = middle-within (z .middle) middle-is })
-      (λ c m. go c (readA-mem ts ls table G z c m))
+  -- the clauses of a disequality in A come from paths, with a last one
+  readA-from-paths : (inB : ℕ → Bool) (u v : ℕ) → T (joined G u v) → (z : Stretches) → Divided inB G u v (path G u v) z → FromPaths table G (readA ts ls table G z)
+  readA-from-paths inB u v j z div =
+      record {
+        last = lastClause ts ls table G z;
+        last-kind = middle-kind (z .middle);
+        last-within = record { premises-within = λ p m. outer p m .0; conclusion-within = middle-within (z .middle) middle-is };
+        each = λ c m. go c (readA-mem ts ls table G z c m);
+      }
     where
       whole-is : IsPath G u v (z .before ++ (z .middle ++ z .after))
       whole-is = subst (IsPath G u v) (sym (div .whole)) (path-is G u v j)
@@ -237,16 +256,19 @@ module _ (ts : List Term) (ls : List Literal) (table : List Term) (G : Graph) (s
       go c (of-outer {p = p} k x) = inl (listed-of-path ts ls table c sound (path-is G (p .left) (p .right) (outer p k .1)) x)
       go c (of-last e) = inr e
 
-  -- so are those of a disequality in B, and those of one on either side: "One pair of ends is one factor with one premise set"
-  pub read-one-each : (X : Side) (u v : ℕ) → T (joined G u v) → OneEach (length table) (readBetween ts ls table G X u v)
+  -- those of a disequality in B come from paths alone; so all clauses of a disequality come from paths
+  pub read-from-paths : (X : Side) (u v : ℕ) → T (joined G u v) → FromPaths table G (readBetween ts ls table G X u v)
   unfolding readBetween isLast
-  read-one-each A u v j =
+  read-from-paths A u v j =
       let inB = colourable ts ls B table in
-      readA-one-each inB u v j (stretches inB u (path G u v)) (stretches-divided inB G v u (path G u v) (path-is G u v j .walk))
-  read-one-each B u v j =
-      paths-one-each (pathClauses (length G) table (path G u v)) (record { premises = []; conclusion = falsum }) tt
-      (record { premises-within = λ p m. absurd (List·Memᴰ·not-nil m); conclusion-within = tt })
-      (λ c m. inl (listed-of-path ts ls table c sound (path-is G u v j) m))
+      readA-from-paths inB u v j (stretches inB u (path G u v)) (stretches-divided inB G v u (path G u v) (path-is G u v j .walk))
+  read-from-paths B u v j =
+      record {
+        last = record { premises = []; conclusion = falsum };
+        last-kind = tt;
+        last-within = record { premises-within = λ p m. absurd (List·Memᴰ·not-nil m); conclusion-within = tt };
+        each = λ c m. inl (listed-of-path ts ls table c sound (path-is G u v j) m);
+      }
 
 -- ---- what a reader believes, in a graph
 
@@ -263,30 +285,71 @@ module _ (ts : List Term) (ls : List Literal) (table : List Term) (G : Graph) (u
   pub clausesIn-listed : (c : Clause) → PathClause table c (path G u v) → Listed c (clausesIn ts ls table G (path G u v))
   clausesIn-listed c x = clause-listed table (length G) c (path-enough G u v) x
 
+  -- the outer premises of a divided path are the premises of the stretches before and after the middle one
+  pub outerPremises-mean : {inB : ℕ → Bool} (z : Stretches) → Divided inB G u v (path G u v) z → (p : Pair) → List·Memᴰ p (outerPremises ts ls table G z) ↔ (Premise table p (z .before) ⊎ Premise table p (z .after))
+  outerPremises-mean z div p = (λ m. ⊎-elim (λ k. inl (premise-meaning table (length G) p (z .before) k)) (λ k. inr (premise-meaning table (length G) p (z .after) k)) (outer-cases ts ls table G z m), ⊎-elim (λ x. outer-before ts ls table G z (premise-listed table (length G) p (walk-enough (div .before-walk)) x)) (λ x. outer-after ts ls table G z (premise-listed table (length G) p (walk-enough (div .after-walk)) x)))
+
 -- ---- the theorem on what is written
 
+-- the clauses that a reader gets from the bytes of a summary's records, whatever follows them
+abbrev pub writtenClauses : ℕ → List Clause → List ℕ → List Clause
+writtenClauses n cs rest = clausesRead (length (clauseRecords n cs)) (clauseBytes n cs ++ rest)
+
+-- a clause with its premises in order says the same
+inOrder-says : (n : ℕ) (c : Clause) → ClauseWithin n c → SameClause (inOrder n c) c
+inOrder-says n c w = record { conclusions = refl; premises-same = λ p. (λ m. ascending-mem n (c .premises) p m .0, λ m. mem-ascending n (c .premises) p m (w .premises-within p m)) }
+
+-- every clause read back is one of the list, with its premises in order
+pub written-said : (n : ℕ) (cs : List Clause) (rest : List ℕ) → n ≤ 65536 → OneEach n cs → SaidBy (writtenClauses n cs rest) cs
+written-said n cs rest fits one c m =
+    let r = standing-exactly n cs one c .0 (subst (λ (ds : List Clause). List·Memᴰ c ds) (read-back-bytes n cs rest fits (λ d k h. one .within d k .conclusion-within)) m) in
+    (r .0, r .1, subst (λ (x : Clause). SameClause x (r .0)) (sym (r .2)) (inOrder-says n (r .0) (one .within (r .0) (r .1))))
+
+-- and every clause of the list is read back
+pub said-written : (n : ℕ) (cs : List Clause) (rest : List ℕ) → n ≤ 65536 → OneEach n cs → (c : Clause) → List·Memᴰ c cs → List·Memᴰ (inOrder n c) (writtenClauses n cs rest)
+said-written n cs rest fits one c m = subst (λ (ds : List Clause). List·Memᴰ (inOrder n c) ds) (sym (read-back-bytes n cs rest fits (λ d k h. one .within d k .conclusion-within))) (all-standing n cs one c m)
+
+-- what demand 3 says of a summary: only shared symbols, true in every interpretation that satisfies A, and never all true in one that satisfies B
+pub record Summarises (ts : List Term) (ls : List Literal) (table : List Term) (cs : List Clause) : Type 1 where
+  pub shared : (c : Clause) → List·Memᴰ c cs → SharedClause ts ls table c
+  pub follows-from-A : (I : Interpretation) → Satisfies I ts ls A → TrueClauses I table cs
+  pub contradicts-B : (I : Interpretation) → Satisfies I ts ls B → TrueClauses I table cs → ⊥
+
 module _ (ts more : List Term) (ls : List Literal) (low : LowerArguments (ts ++ more)) (within : SidesWithin ts ls) (G : Graph) (sound : SoundGraph ts ls (ts ++ more) G) (l : Literal) (stands : List·Memᴰ l ls) (differ : l .kind ≡ different) (meet : T (joined G (l .left) (l .right))) where
-  -- the summary has one clause for a conclusion, over terms of the table
-  pub summary-one-each : OneEach (length (ts ++ more)) (summary ts ls (ts ++ more) G l)
+  -- all clauses of the summary but the last come from paths of the graph
+  pub summary-from-paths : FromPaths (ts ++ more) G (summary ts ls (ts ++ more) G l)
   unfolding summary
-  summary-one-each = read-one-each ts ls (ts ++ more) G sound (l .side) (l .left) (l .right) meet
+  summary-from-paths = read-from-paths ts ls (ts ++ more) G sound (l .side) (l .left) (l .right) meet
+
+  -- the premises of a clause that concludes an equality are those of the path between its ends: its conclusion determines them
+  pub summary-premises : (c : Clause) (p : Pair) → List·Memᴰ c (summary ts ls (ts ++ more) G l) → c .conclusion ≡ equals p → (q : Pair) → List·Memᴰ q (c .premises) ↔ Premise (ts ++ more) q (path G (p .left) (p .right))
+  summary-premises c p m e = from-paths-premises summary-from-paths m e
+
+  -- so the summary has one clause for a conclusion, over terms of the table: "One pair of ends is one factor with one premise set"
+  pub summary-one-each : OneEach (length (ts ++ more)) (summary ts ls (ts ++ more) G l)
+  summary-one-each = from-paths-one-each ts ls (ts ++ more) G sound summary-from-paths
 
   module _ (fits : length (ts ++ more) ≤ 65536) (rest : List ℕ) where
-    -- the clauses that a reader gets from the bytes of the records, whatever follows them
-    abbrev pub writtenClauses : List Clause
-    writtenClauses =
-        let n = length (ts ++ more) in
-        let cs = summary ts ls (ts ++ more) G l in
-        clausesRead (length (clauseRecords n cs)) (clauseBytes n cs ++ rest)
-
-    -- they use only shared symbols
-    pub written-shared : (c : Clause) → List·Memᴰ c writtenClauses → SharedClause ts ls (ts ++ more) c
+    -- the clauses read back use only shared symbols
+    pub written-shared : (c : Clause) → List·Memᴰ c (writtenClauses (length (ts ++ more)) (summary ts ls (ts ++ more) G l) rest) → SharedClause ts ls (ts ++ more) c
     written-shared = bytes-shared (length (ts ++ more)) (summary ts ls (ts ++ more) G l) rest fits (λ c m h. summary-one-each .within c m .conclusion-within) ts ls (ts ++ more) (summary-shared ts more ls low within G sound l stands differ meet)
 
     -- every interpretation that satisfies A makes each of them true
-    pub written-A : (I : Interpretation) → Satisfies I ts ls A → TrueClauses I (ts ++ more) writtenClauses
+    pub written-A : (I : Interpretation) → Satisfies I ts ls A → TrueClauses I (ts ++ more) (writtenClauses (length (ts ++ more)) (summary ts ls (ts ++ more) G l) rest)
     written-A I holds = bytes-true (length (ts ++ more)) (summary ts ls (ts ++ more) G l) rest fits summary-one-each I (ts ++ more) .0 (summary-A ts more ls low within G sound l stands differ meet I holds)
 
     -- no interpretation that satisfies B makes all of them true
-    pub written-B : (I : Interpretation) → Satisfies I ts ls B → TrueClauses I (ts ++ more) writtenClauses → ⊥
+    pub written-B : (I : Interpretation) → Satisfies I ts ls B → TrueClauses I (ts ++ more) (writtenClauses (length (ts ++ more)) (summary ts ls (ts ++ more) G l) rest) → ⊥
     written-B I holds given = summary-B ts more ls low within G sound l stands differ meet I holds (bytes-true (length (ts ++ more)) (summary ts ls (ts ++ more) G l) rest fits summary-one-each I (ts ++ more) .1 given)
+
+    -- the premises of a clause read back that concludes an equality are those of the path between its ends
+    pub written-premises : (c : Clause) (p : Pair) → List·Memᴰ c (writtenClauses (length (ts ++ more)) (summary ts ls (ts ++ more) G l) rest) → c .conclusion ≡ equals p → (q : Pair) → List·Memᴰ q (c .premises) ↔ Premise (ts ++ more) q (path G (p .left) (p .right))
+    written-premises c p m e q =
+        let r = written-said (length (ts ++ more)) (summary ts ls (ts ++ more) G l) rest fits summary-one-each c m in
+        let same = r .2 .premises-same q in
+        let means = summary-premises (r .0) p (r .1) (sym (r .2 .conclusions) ∙ e) q in
+        (λ k. means .0 (same .0 k), λ x. same .1 (means .1 x))
+
+  -- the interpolation theorem on what is written, for a table as large as the given and the added terms together can be
+  pub written-summarises : length (ts ++ more) ≤ 511 → (rest : List ℕ) → Summarises ts ls (ts ++ more) (writtenClauses (length (ts ++ more)) (summary ts ls (ts ++ more) G l) rest)
+  written-summarises few rest = let fits : length (ts ++ more) ≤ 65536 = omega arith in record { shared = written-shared fits rest; follows-from-A = written-A fits rest; contradicts-B = written-B fits rest }
