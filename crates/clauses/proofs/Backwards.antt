@@ -1,5 +1,5 @@
 -- A path walked backwards has its factors backwards, and so the same premises.
-use mathlib.Core.List.{List, [], _∷_, _++_, flatMap, append-assoc, append-nil, List·Memᴰ, List·Memᴰ·head, List·Memᴰ·tail, List·Memᴰ·not-nil, List·Memᴰ·cases-cons, List·Memᴰ·eq-of-singleton}
+use mathlib.Core.List.{List, [], _∷_, _++_, flatMap, append-assoc, append-nil, List·Memᴰ, List·Memᴰ·head, List·Memᴰ·tail, List·Memᴰ·not-nil, List·Memᴰ·cases-cons}
 use mathlib.Core.Logic.{⊎-elim, _↔_}
 use mathlib.Core.Path.{_≡_, refl, sym, ap, subst, _∙_}
 use Prim.Native.Nat.{ℕ}
@@ -15,7 +15,7 @@ use Rattle.closure.proofs.OnePath.{turned, backwards, backwards-append, mem-bac
 use Rattle.closure.proofs.Parents.{hop-sound, path-hop, parent-hop}
 use Rattle.closure.proofs.ParentPaths.{parent-back}
 use Rattle.clauses.specs.Factors.{Factor, factors}
-use Rattle.clauses.specs.Premises.{endsOf, Premise, own, parent}
+use Rattle.clauses.specs.Premises.{Premise, own, parent}
 use Rattle.clauses.specs.Reading.{endOf}
 use Rattle.clauses.proofs.Factors.{Stretch, Alternate, none-left, last-one, other-next, allHops, factors-stretch, factors-alternate, factors-whole, longest-factors, factor-hop}
 use Rattle.clauses.proofs.Truths.{older-sound}

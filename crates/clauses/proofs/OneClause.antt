@@ -17,27 +17,27 @@ use Rattle.tables.specs.Colours.{colourable}
 use Rattle.tables.specs.Interpretations.{Interpretation, Satisfies}
 use Rattle.tables.proofs.Colours.{SidesWithin}
 use Rattle.closure.specs.Graph.{Graph, Hop, Path, joined, path, parentPaths}
-use Rattle.closure.specs.Walks.{HopOf, Walk, stay, hop, IsPath}
+use Rattle.closure.specs.Walks.{Walk, hop, IsPath}
 use Rattle.closure.proofs.Joined.{joined-sym}
 use Rattle.closure.proofs.Walks.{older-fewer, older-joined, walk-joined, walk-hop}
 use Rattle.closure.proofs.Invariant.{SoundGraph}
 use Rattle.closure.proofs.OnePath.{path-is, path-older, one-path, stretch-is}
 use Rattle.closure.proofs.Parents.{hop-sound}
-use Rattle.closure.proofs.ParentPaths.{sound-forest, path-ends-differ, parent-path, parent-in}
-use Rattle.clauses.specs.Clauses.{between, Clause, Conclusion, equals, differs, falsum}
+use Rattle.closure.proofs.ParentPaths.{sound-forest, path-ends-differ, parent-in, parent-older}
+use Rattle.clauses.specs.Clauses.{between, Clause, Conclusion, equals, falsum}
 use Rattle.clauses.specs.Factors.{Factor, factors}
 use Rattle.clauses.specs.Premises.{endsOf, premises, pathClauses, Premise, own, parent, ListsPremises, PathClause, inside, whole, under}
 use Rattle.clauses.specs.Reading.{Stretches, endOf, stretches, notMiddle, outerPremises, premisesIn, clausesIn, readA, readBetween, summary}
 use Rattle.clauses.specs.Records.{isLast, inOrder, clauseRecords}
 use Rattle.clauses.specs.ReadBack.{clausesRead}
 use Rattle.clauses.specs.Truth.{TrueClauses, SharedClause}
-use Rattle.clauses.proofs.Factors.{Stretch, last-one, allHops, factors-whole, factors-stretch, longest-factors, factor-hop, factor-walk}
+use Rattle.clauses.proofs.Factors.{Stretch, last-one, allHops, factors-whole, factors-stretch, longest-factors, factor-walk}
 use Rattle.clauses.proofs.Truths.{factor-hopOf, older-sound}
 use Rattle.clauses.proofs.Shared.{walk-carries}
 use Rattle.clauses.proofs.Stretches.{Divided, stretches-divided, walk-end}
 use Rattle.clauses.proofs.Meaning.{Enough, path-enough, Listed, premise-meaning, premise-listed, premises-mean, clause-meaning, clause-listed}
 use Rattle.clauses.proofs.Interpolation.{lastClause, outer-cases, outer-before, outer-after, ReadingA, of-middle, of-outer, of-last, readA-mem, summary-shared, summary-A, summary-B}
-use Rattle.clauses.proofs.Order.{PairWithin, ConclusionWithin, ClauseWithin, ClausesWithin, OneEach, SameClause, SaidBy, ascending-mem, mem-ascending, all-standing, standing-exactly, between-either, between-within}
+use Rattle.clauses.proofs.Order.{PairWithin, ConclusionWithin, ClauseWithin, OneEach, SameClause, SaidBy, ascending-mem, mem-ascending, all-standing, standing-exactly, between-either, between-within}
 use Rattle.clauses.proofs.Records.{clauseBytes, read-back-bytes, bytes-true, bytes-shared}
 use Rattle.clauses.proofs.Backwards.{premise-other-end}
 
@@ -96,17 +96,13 @@ module _ (ts : List Term) (ls : List Literal) (table : List Term) where
       let x = factors-stretch π m in
       ends-within s (subst (IsPath G (f .from) (f .to)) (x .hops-are) (factor-is p m))
 
-  -- a parent path of a hop is a path of the graph
-  parent-is : {h : Hop} {G : Graph} {π : Path} → SoundGraph ts ls table G → HopOf h G → List·Memᴰ π (parentPaths table h) → (a : ℕ) × (b : ℕ) × IsPath G a b π
-  parent-is {G = G} s of m = let r = parent-in ts ls table s of m in (r .0, r .1, subst (IsPath G (r .0) (r .1)) (sym (r .3)) (path-is G (r .0) (r .1) (r .2)))
-
   -- the premises of a path are pairs of joined terms of the table
   pub premise-sound : (p : Pair) {G : Graph} {u v : ℕ} {π : Path} → SoundGraph ts ls table G → IsPath G u v π → Premise table p π → PairWithin (length table) p × T (joined G (p .left) (p .right))
   premise-sound p {G} s is (own {f = f} m e q) =
       let j = walk-joined (factor-walk (is .walk) m) in
       subst (λ (x : Pair). PairWithin (length table) x × T (joined G (x .left) (x .right))) (sym q)
       (factor-within s is m, between-either (λ x. T (joined G (x .left) (x .right))) (f .from) (f .to) j (joined-sym G (f .from) (f .to) j))
-  premise-sound p s is (parent m e n o x) = premise-sound p s (parent-is s (factor-hopOf (is .walk) m n) o .2) x
+  premise-sound p s is (parent m e n o x) = premise-sound p s (parent-in ts ls table s (factor-hopOf (is .walk) m n) o .2) x
 
   -- the premises of an A-factor's edges are the premises of the path between its ends
   pub factor-premises : {G : Graph} {u v : ℕ} {π : Path} {f : Factor} → SoundGraph ts ls table G → IsPath G u v π → List·Memᴰ f (factors π) → f .colour ≡ A → (ps : List Pair) → ListsPremises table f ps → (q : Pair) → List·Memᴰ q ps ↔ Premise table q (path G (f .from) (f .to))
@@ -127,7 +123,7 @@ module _ (ts : List Term) (ls : List Literal) (table : List Term) where
 
   -- a path clause of a path of the graph comes from a path of the graph
   pub clause-of-path : (c : Clause) {G : Graph} {u v : ℕ} {π : Path} → SoundGraph ts ls table G → IsPath G u v π → PathClause table c π → OfPath table G c
-  clause-of-path c s is (inside m e n o x) = clause-of-path c s (parent-is s (factor-hopOf (is .walk) m n) o .2) x
+  clause-of-path c s is (inside m e n o x) = clause-of-path c s (parent-in ts ls table s (factor-hopOf (is .walk) m n) o .2) x
   clause-of-path c {G} s is (whole {f = f} m e lists q) =
       let j = walk-joined (factor-walk (is .walk) m) in
       let premises-from = factor-premises s is m e (c .premises) lists in
@@ -138,11 +134,9 @@ module _ (ts : List Term) (ls : List Literal) (table : List Term) where
         connected = between-either (λ p. T (joined G (p .left) (p .right))) (f .from) (f .to) j (joined-sym G (f .from) (f .to) j);
         premises-are = between-either (λ p. (q : Pair) → List·Memᴰ q (c .premises) ↔ Premise table q (path G (p .left) (p .right))) (f .from) (f .to) premises-from (λ q. let t = premise-other-end ts ls table G s (f .from) (f .to) j q in (λ k. t .0 (premises-from q .0 k), λ x. premises-from q .1 (t .1 x)));
       }
-  clause-of-path c {G} s is (under {π′ = ρ} {h = h} {p = p} m e n o x y) =
+  clause-of-path c {G} s is (under {p = p} m e n o x y) =
       let of = factor-hopOf (is .walk) m n in
-      let r = parent-path ts ls table (hop-sound ts ls table of s) o in
-      let older = older-sound ts ls table s of in
-      let j = premise-sound p older (subst (IsPath (h .older) (r .0) (r .1)) (sym (r .3)) (path-is (h .older) (r .0) (r .1) (r .2))) x .1 in
+      let j = premise-sound p (older-sound ts ls table s of) (parent-older ts ls table (hop-sound ts ls table of s) o .2) x .1 in
       let same = path-older (p .left) (p .right) of j in
       clause-of-path c s (subst (IsPath G (p .left) (p .right)) (sym same) (path-is G (p .left) (p .right) (older-joined (p .left) (p .right) of j))) y
 

@@ -1,21 +1,18 @@
 -- Parent paths are paths of the graph, and the edge walked the other way has them backwards.
-use mathlib.Core.List.{List, [], _∷_, _++_, zipWith, List·Memᴰ, List·Memᴰ·head, List·Memᴰ·tail, List·Memᴰ·not-nil, List·Memᴰ·cases-cons}
+use mathlib.Core.List.{List, [], _∷_, zipWith, List·Memᴰ, List·Memᴰ·head, List·Memᴰ·tail, List·Memᴰ·not-nil, List·Memᴰ·cases-cons}
 use mathlib.Core.Logic.{⊎-elim}
-use mathlib.Core.Path.{_≡_, refl, sym, ap, subst, _∙_}
-use Prim.Native.Nat.{ℕ, _<_}
-use lib.Dec.{T, eqb}
-use lib.ListN.{length}
+use mathlib.Core.Path.{_≡_, sym, ap, subst, _∙_}
+use Prim.Native.Nat.{ℕ}
+use lib.Dec.{T}
 use Rattle.tables.specs.Terms.{Term, termAt}
 use Rattle.tables.specs.LiteralTable.{Literal}
 use Rattle.tables.proofs.Words.{and-left, and-right}
-use Rattle.closure.specs.Graph.{Edge, EdgeKind, basic, derived, Graph, Hop, Path, joined, path, joinedPairwise, pathsBetween, parentsOf, parentPaths, vertices}
-use Rattle.closure.specs.Walks.{HopOf, Walk, stay, hop, Once, new, IsPath}
-use Rattle.closure.specs.Steps.{congruent}
-use Rattle.closure.proofs.Joined.{joined-self}
-use Rattle.closure.proofs.Walks.{older-joined, walk-hop}
-use Rattle.closure.proofs.Invariant.{Each, Unjoined, Forest, Behind, SoundEdge, SoundGraph}
-use Rattle.closure.proofs.OnePath.{walk-end, turned, backwards, path-back, path-older}
-use Rattle.closure.proofs.Parents.{walked, SoundHop, hop-sound}
+use Rattle.closure.specs.Graph.{Edge, EdgeKind, Graph, Hop, Path, joined, joinedPairwise, pathsBetween, parentsOf, parentPaths, vertices}
+use Rattle.closure.specs.Walks.{HopOf, Walk, hop, Once, new, IsPath}
+use Rattle.closure.proofs.Walks.{older-joined}
+use Rattle.closure.proofs.Invariant.{Each, Unjoined, Forest, SoundEdge, SoundGraph}
+use Rattle.closure.proofs.OnePath.{walk-end, turned, backwards, path-is, path-back, path-older}
+use Rattle.closure.proofs.Parents.{SoundHop, hop-sound, parents-are, parent-path}
 
 -- ---- sound graphs
 
@@ -37,17 +34,7 @@ path-ends-differ {G} {u} {v} {h} {π} p e = go (p .walk) (p .once)
 
 -- ---- parent paths
 
--- each of the paths between arguments that are joined pair by pair is the path between two joined terms
-pub between-path : (G : Graph) (xs ys : List ℕ) → T (joinedPairwise G xs ys) → {π : Path} → List·Memᴰ π (pathsBetween G xs ys) → (a : ℕ) × (b : ℕ) × T (joined G a b) × (π ≡ path G a b)
-unfolding joinedPairwise pathsBetween zipWith
-between-path G [] [] h m = absurd (List·Memᴰ·not-nil m)
-between-path G [] (y ∷ ys) h m = absurd h
-between-path G (x ∷ xs) [] h m = absurd h
-between-path G (x ∷ xs) (y ∷ ys) h m =
-    ⊎-elim (λ e. (x, y, and-left (joined G x y) (joinedPairwise G xs ys) h, e)) (λ k. between-path G xs ys (and-right (joined G x y) (joinedPairwise G xs ys) h) k)
-    (List·Memᴰ·cases-cons m)
-
--- the paths the other way round are these backwards
+-- the paths between arguments the other way round are these backwards
 pub between-back : (G : Graph) (xs ys : List ℕ) → T (joinedPairwise G xs ys) → {π : Path} → List·Memᴰ π (pathsBetween G xs ys) → List·Memᴰ (backwards π) (pathsBetween G ys xs)
 unfolding joinedPairwise pathsBetween zipWith
 between-back G [] [] h m = absurd (List·Memᴰ·not-nil m)
@@ -59,34 +46,23 @@ between-back G (x ∷ xs) (y ∷ ys) h m =
     (List·Memᴰ·cases-cons m)
 
 module _ (ts : List Term) (ls : List Literal) (table : List Term) where
-  -- What holds of the paths between any arguments that the older edges join pair by pair, holds of the parent paths of a hop: a basic edge has none.
-  pub parents-by : (P : Graph → List ℕ → List ℕ → Path → Type 0) → ((G : Graph) (xs ys : List ℕ) (π : Path) → T (joinedPairwise G xs ys) → List·Memᴰ π (pathsBetween G xs ys) → P G xs ys π) → {h : Hop} → SoundHop ts ls table h → {π : Path} → List·Memᴰ π (parentPaths table h) → (h .kind ≡ derived) × P (h .older) (termAt table (h .from) .arguments) (termAt table (h .to) .arguments) π
-  unfolding parentPaths parentsOf congruent
-  parents-by P f {h} s {π} m = go (h .kind) refl (s .behind) m
-    where
-      as′ : List ℕ
-      as′ = termAt table (h .from) .arguments
+  -- a parent path is a path of the graph
+  pub parent-in : {h : Hop} {G : Graph} → SoundGraph ts ls table G → HopOf h G → {π : Path} → List·Memᴰ π (parentPaths table h) → (a : ℕ) × (b : ℕ) × IsPath G a b π
+  parent-in {G = G} s of m =
+      let r = parent-path ts ls table (hop-sound ts ls table of s) m in
+      let a = r .0 in
+      let b = r .1 in
+      (a, b, subst (IsPath G a b) (sym (r .5 ∙ path-older a b of (r .4))) (path-is G a b (older-joined a b of (r .4))))
 
-      bs : List ℕ
-      bs = termAt table (h .to) .arguments
-
-      go : (k : EdgeKind) → h .kind ≡ k → Behind ls table (h .older) (walked h) k → List·Memᴰ π (parentsOf k (pathsBetween (h .older) as′ bs)) → (h .kind ≡ derived) × P (h .older) as′ bs π
-      go basic e b n = absurd (List·Memᴰ·not-nil n)
-      go derived e b n = (e, f (h .older) as′ bs π (and-right (eqb (termAt table (h .from) .symbol) (termAt table (h .to) .symbol)) (joinedPairwise (h .older) as′ bs) b) n)
-
-  -- a parent path is the path between two terms that the older edges join
-  pub parent-path : {h : Hop} → SoundHop ts ls table h → {π : Path} → List·Memᴰ π (parentPaths table h) → (a : ℕ) × (b : ℕ) × T (joined (h .older) a b) × (π ≡ path (h .older) a b)
-  parent-path s m = parents-by (λ G xs ys π. (a : ℕ) × (b : ℕ) × T (joined G a b) × (π ≡ path G a b)) (λ G xs ys π j n. between-path G xs ys j n) s m .1
-
-  -- and so the path between them in the graph
-  pub parent-in : {h : Hop} {G : Graph} → SoundGraph ts ls table G → HopOf h G → {π : Path} → List·Memᴰ π (parentPaths table h) → (a : ℕ) × (b : ℕ) × T (joined G a b) × (π ≡ path G a b)
-  parent-in s of m =
-      let r = parent-path (hop-sound ts ls table of s) m in
-      (r .0, r .1, older-joined (r .0) (r .1) of (r .2), r .3 ∙ path-older (r .0) (r .1) of (r .2))
+  -- also of the edges older than its hop
+  pub parent-older : {h : Hop} → SoundHop ts ls table h → {π : Path} → List·Memᴰ π (parentPaths table h) → (a : ℕ) × (b : ℕ) × IsPath (h .older) a b π
+  parent-older {h} s m = let r = parent-path ts ls table s m in (r .0, r .1, subst (IsPath (h .older) (r .0) (r .1)) (sym (r .5)) (path-is (h .older) (r .0) (r .1) (r .4)))
 
   -- the hop walked the other way has the parent path backwards
   pub parent-back : {h : Hop} → SoundHop ts ls table h → {π : Path} → List·Memᴰ π (parentPaths table h) → List·Memᴰ (backwards π) (parentPaths table (turned h))
   unfolding parentPaths parentsOf
   parent-back {h} s {π} m =
-      let r = parents-by (λ G xs ys π. List·Memᴰ (backwards π) (pathsBetween G ys xs)) (λ G xs ys π j n. between-back G xs ys j n) s m in
-      subst (λ (k : EdgeKind). List·Memᴰ (backwards π) (parentsOf k (pathsBetween (h .older) (termAt table (h .to) .arguments) (termAt table (h .from) .arguments)))) (sym (r .0)) (r .1)
+      let as′ = termAt table (h .from) .arguments in
+      let bs = termAt table (h .to) .arguments in
+      let r = parents-are ts ls table s m in
+      subst (λ (k : EdgeKind). List·Memᴰ (backwards π) (parentsOf k (pathsBetween (h .older) bs as′))) (sym (r .0)) (between-back (h .older) as′ bs (r .1) (r .2))
