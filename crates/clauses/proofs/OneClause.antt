@@ -1,5 +1,5 @@
--- "One pair of ends is one factor with one premise set": the summary has one clause for a conclusion, over terms of the table. So what its records
--- say is what the summary says, and the interpolation theorem is one of the bytes that are written.
+-- The premises of a path clause are those of the path between its ends, so the summary has one clause for a conclusion. Hence what its records say is
+-- what the summary says, and the interpolation theorem is one of the bytes that are written.
 use mathlib.Core.Bool.{Bool}
 use mathlib.Core.List.{List, [], _∷_, _++_, flatMap, append-assoc, append-nil, List·Memᴰ, List·Memᴰ·head, List·Memᴰ·tail, List·Memᴰ·not-nil, List·Memᴰ·eq-of-singleton}
 use mathlib.Core.Logic.{_⊎_, inl, inr, ⊎-elim, _↔_}
@@ -23,21 +23,21 @@ use Rattle.closure.proofs.Walks.{older-fewer, older-joined, walk-joined, walk-h
 use Rattle.closure.proofs.Invariant.{SoundGraph}
 use Rattle.closure.proofs.OnePath.{path-is, path-older, one-path, stretch-is}
 use Rattle.closure.proofs.Parents.{hop-sound}
-use Rattle.closure.proofs.ParentPaths.{sound-forest, path-ends-differ, parent-in, parent-older}
+use Rattle.closure.proofs.ParentPaths.{sound-forest, path-ends-differ, parent-in}
 use Rattle.clauses.specs.Clauses.{between, Clause, Conclusion, equals, falsum}
 use Rattle.clauses.specs.Factors.{Factor, factors}
-use Rattle.clauses.specs.Premises.{endsOf, premises, pathClauses, Premise, own, parent, ListsPremises, PathClause, inside, whole, under}
+use Rattle.clauses.specs.Premises.{endsOf, pathClauses, Premise, own, parent, ListsPremises, PathClause, inside, whole, under}
 use Rattle.clauses.specs.Reading.{Stretches, endOf, stretches, notMiddle, outerPremises, premisesIn, clausesIn, readA, readBetween, summary}
 use Rattle.clauses.specs.Records.{isLast, inOrder, clauseRecords}
 use Rattle.clauses.specs.ReadBack.{clausesRead}
 use Rattle.clauses.specs.Truth.{TrueClauses, SharedClause}
 use Rattle.clauses.proofs.Factors.{Stretch, last-one, allHops, factors-whole, factors-stretch, longest-factors, factor-walk}
-use Rattle.clauses.proofs.Truths.{factor-hopOf, older-sound}
+use Rattle.clauses.proofs.Truths.{between-sides, factor-hopOf, older-sound, parent-below, premise-joined}
 use Rattle.clauses.proofs.Shared.{walk-carries}
-use Rattle.clauses.proofs.Stretches.{Divided, stretches-divided, walk-end}
+use Rattle.clauses.proofs.Stretches.{Divided, stretches-divided, endOf-walk}
 use Rattle.clauses.proofs.Meaning.{Enough, path-enough, Listed, premise-meaning, premise-listed, premises-mean, clause-meaning, clause-listed}
 use Rattle.clauses.proofs.Interpolation.{lastClause, outer-cases, outer-before, outer-after, ReadingA, of-middle, of-outer, of-last, readA-mem, summary-shared, summary-A, summary-B}
-use Rattle.clauses.proofs.Order.{PairWithin, ConclusionWithin, ClauseWithin, OneEach, SameClause, SaidBy, ascending-mem, mem-ascending, all-standing, standing-exactly, between-either, between-within}
+use Rattle.clauses.proofs.Order.{PairWithin, ConclusionWithin, ClauseWithin, OneEach, SameClause, SaidBy, ascending-mem, mem-ascending, all-standing, standing-exactly, between-within}
 use Rattle.clauses.proofs.Records.{clauseBytes, read-back-bytes, bytes-true, bytes-shared}
 use Rattle.clauses.proofs.Backwards.{premise-other-end}
 
@@ -96,13 +96,14 @@ module _ (ts : List Term) (ls : List Literal) (table : List Term) where
       let x = factors-stretch π m in
       ends-within s (subst (IsPath G (f .from) (f .to)) (x .hops-are) (factor-is p m))
 
-  -- the premises of a path are pairs of joined terms of the table
-  pub premise-sound : (p : Pair) {G : Graph} {u v : ℕ} {π : Path} → SoundGraph ts ls table G → IsPath G u v π → Premise table p π → PairWithin (length table) p × T (joined G (p .left) (p .right))
-  premise-sound p {G} s is (own {f = f} m e q) =
-      let j = walk-joined (factor-walk (is .walk) m) in
-      subst (λ (x : Pair). PairWithin (length table) x × T (joined G (x .left) (x .right))) (sym q)
-      (factor-within s is m, between-either (λ x. T (joined G (x .left) (x .right))) (f .from) (f .to) j (joined-sym G (f .from) (f .to) j))
-  premise-sound p s is (parent m e n o x) = premise-sound p s (parent-in ts ls table s (factor-hopOf (is .walk) m n) o .2) x
+  -- the premises of a path are pairs of terms of the table
+  pub premise-within : (p : Pair) {G : Graph} {u v : ℕ} {π : Path} → SoundGraph ts ls table G → IsPath G u v π → Premise table p π → PairWithin (length table) p
+  premise-within p s is (own m e q) = subst (PairWithin (length table)) (sym q) (factor-within s is m)
+  premise-within p s is (parent m e n o x) = premise-within p s (parent-in ts ls table s (factor-hopOf (is .walk) m n) o .2) x
+
+  -- which the graph joins
+  pub premise-connected : (p : Pair) {G : Graph} {u v : ℕ} {π : Path} → SoundGraph ts ls table G → Walk G u v π → Premise table p π → T (joined G (p .left) (p .right))
+  premise-connected p {G} s w x = premise-joined ts ls table (length G) p s w (premise-listed table (length G) p (walk-enough w) x)
 
   -- the premises of an A-factor's edges are the premises of the path between its ends
   pub factor-premises : {G : Graph} {u v : ℕ} {π : Path} {f : Factor} → SoundGraph ts ls table G → IsPath G u v π → List·Memᴰ f (factors π) → f .colour ≡ A → (ps : List Pair) → ListsPremises table f ps → (q : Pair) → List·Memᴰ q ps ↔ Premise table q (path G (f .from) (f .to))
@@ -131,12 +132,12 @@ module _ (ts : List Term) (ls : List Literal) (table : List Term) where
         of = endsOf f;
         concluded = q;
         of-within = factor-within s is m;
-        connected = between-either (λ p. T (joined G (p .left) (p .right))) (f .from) (f .to) j (joined-sym G (f .from) (f .to) j);
-        premises-are = between-either (λ p. (q : Pair) → List·Memᴰ q (c .premises) ↔ Premise table q (path G (p .left) (p .right))) (f .from) (f .to) premises-from (λ q. let t = premise-other-end ts ls table G s (f .from) (f .to) j q in (λ k. t .0 (premises-from q .0 k), λ x. premises-from q .1 (t .1 x)));
+        connected = between-sides (λ x y. T (joined G x y)) (f .from) (f .to) j (joined-sym G (f .from) (f .to) j);
+        premises-are = between-sides (λ x y. (q : Pair) → List·Memᴰ q (c .premises) ↔ Premise table q (path G x y)) (f .from) (f .to) premises-from (λ q. let t = premise-other-end ts ls table G s (f .from) (f .to) j q in (λ k. t .0 (premises-from q .0 k), λ x. premises-from q .1 (t .1 x)));
       }
-  clause-of-path c {G} s is (under {p = p} m e n o x y) =
+  clause-of-path c {G} s is (under {π′ = ρ} {p = p} m e n o x y) =
       let of = factor-hopOf (is .walk) m n in
-      let j = premise-sound p (older-sound ts ls table s of) (parent-older ts ls table (hop-sound ts ls table of s) o .2) x .1 in
+      let j = premise-connected p (older-sound ts ls table s of) (parent-below ts ls table s of ρ o .4) x in
       let same = path-older (p .left) (p .right) of j in
       clause-of-path c s (subst (IsPath G (p .left) (p .right)) (sym same) (path-is G (p .left) (p .right) (older-joined (p .left) (p .right) of j))) y
 
@@ -148,7 +149,7 @@ module _ (ts : List Term) (ls : List Literal) (table : List Term) where
   pub of-path-within : {c : Clause} {G : Graph} → SoundGraph ts ls table G → OfPath table G c → ClauseWithin (length table) c
   of-path-within {c} {G} s o =
       record {
-        premises-within = λ q m. premise-sound q s (path-is G (o .of .left) (o .of .right) (o .connected)) (o .premises-are q .0 m) .0;
+        premises-within = λ q m. premise-within q s (path-is G (o .of .left) (o .of .right) (o .connected)) (o .premises-are q .0 m);
         conclusion-within = subst (ConclusionWithin (length table)) (sym (o .concluded)) (o .of-within);
       }
 
@@ -209,7 +210,7 @@ module _ (ts : List Term) (ls : List Literal) (table : List Term) (G : Graph) (s
   middle-within {u} {v} (h ∷ π) p = subst (PairWithin (length table)) (ends (p .walk)) (ends-within ts ls table sound p)
     where
       ends : Walk G u v (h ∷ π) → between u v ≡ between (h .from) (endOf (h .to) π)
-      ends (hop k q w) = λ i. between (q i) (sym (walk-end w) i)
+      ends (hop k q w) = λ i. between (q i) (sym (endOf-walk w) i)
 
   -- it is of kind 3 or 4
   middle-kind : (π : Path) → T (isLast (notMiddle π))
@@ -223,7 +224,7 @@ module _ (ts : List Term) (ls : List Literal) (table : List Term) (G : Graph) (s
       record {
         last = lastClause ts ls table G z;
         last-kind = middle-kind (z .middle);
-        last-within = record { premises-within = λ p m. outer p m .0; conclusion-within = middle-within (z .middle) middle-is };
+        last-within = record { premises-within = outer-within; conclusion-within = middle-within (z .middle) middle-is };
         each = λ c m. go c (readA-mem ts ls table G z c m);
       }
     where
@@ -239,15 +240,18 @@ module _ (ts : List Term) (ls : List Literal) (table : List Term) (G : Graph) (s
       after-is : IsPath G (div .last) v (z .after)
       after-is = stretch-is (z .before ++ z .middle) (z .after) [] (subst (IsPath G u v) (sym (append-assoc (z .before) (z .middle) (z .after)) ∙ ap (λ (τ : Path). (z .before ++ z .middle) ++ τ) (sym (append-nil (z .after)))) whole-is) (div .after-walk)
 
-      outer : (p : Pair) → List·Memᴰ p (outerPremises ts ls table G z) → PairWithin (length table) p × T (joined G (p .left) (p .right))
-      outer p m =
-          ⊎-elim (λ k. premise-sound ts ls table p sound before-is (premise-meaning table (length G) p (z .before) k))
-          (λ k. premise-sound ts ls table p sound after-is (premise-meaning table (length G) p (z .after) k))
+      outer-within : (p : Pair) → List·Memᴰ p (outerPremises ts ls table G z) → PairWithin (length table) p
+      outer-within p m =
+          ⊎-elim (λ k. premise-within ts ls table p sound before-is (premise-meaning table (length G) p (z .before) k))
+          (λ k. premise-within ts ls table p sound after-is (premise-meaning table (length G) p (z .after) k))
           (outer-cases ts ls table G z m)
+
+      outer-is : (p : Pair) → List·Memᴰ p (outerPremises ts ls table G z) → IsPath G (p .left) (p .right) (path G (p .left) (p .right))
+      outer-is p m = path-is G (p .left) (p .right) (⊎-elim (λ k. premise-joined ts ls table (length G) p sound (div .before-walk) k) (λ k. premise-joined ts ls table (length G) p sound (div .after-walk) k) (outer-cases ts ls table G z m))
 
       go : (c : Clause) → ReadingA ts ls table G z c → OfPath table G c ⊎ (c ≡ lastClause ts ls table G z)
       go c (of-middle k) = inl (listed-of-path ts ls table c sound middle-is k)
-      go c (of-outer {p = p} k x) = inl (listed-of-path ts ls table c sound (path-is G (p .left) (p .right) (outer p k .1)) x)
+      go c (of-outer {p = p} k x) = inl (listed-of-path ts ls table c sound (outer-is p k) x)
       go c (of-last e) = inr e
 
   -- those of a disequality in B come from paths alone; so all clauses of a disequality come from paths
@@ -319,7 +323,7 @@ module _ (ts more : List Term) (ls : List Literal) (low : LowerArguments (ts ++ 
   pub summary-premises : (c : Clause) (p : Pair) → List·Memᴰ c (summary ts ls (ts ++ more) G l) → c .conclusion ≡ equals p → (q : Pair) → List·Memᴰ q (c .premises) ↔ Premise (ts ++ more) q (path G (p .left) (p .right))
   summary-premises c p m e = from-paths-premises summary-from-paths m e
 
-  -- so the summary has one clause for a conclusion, over terms of the table: "One pair of ends is one factor with one premise set"
+  -- so the summary has one clause for a conclusion, over terms of the table
   pub summary-one-each : OneEach (length (ts ++ more)) (summary ts ls (ts ++ more) G l)
   summary-one-each = from-paths-one-each ts ls (ts ++ more) G sound summary-from-paths
 

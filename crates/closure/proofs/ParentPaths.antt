@@ -7,12 +7,12 @@ use lib.Dec.{T}
 use Rattle.tables.specs.Terms.{Term, termAt}
 use Rattle.tables.specs.LiteralTable.{Literal}
 use Rattle.tables.proofs.Words.{and-left, and-right}
-use Rattle.closure.specs.Graph.{Edge, EdgeKind, Graph, Hop, Path, joined, joinedPairwise, pathsBetween, parentsOf, parentPaths, vertices}
+use Rattle.closure.specs.Graph.{Edge, EdgeKind, Graph, Hop, Path, joined, path, joinedPairwise, pathsBetween, parentsOf, parentPaths, vertices}
 use Rattle.closure.specs.Walks.{HopOf, Walk, hop, Once, new, IsPath}
 use Rattle.closure.proofs.Walks.{older-joined}
 use Rattle.closure.proofs.Invariant.{Each, Unjoined, Forest, SoundEdge, SoundGraph}
 use Rattle.closure.proofs.OnePath.{walk-end, turned, backwards, path-is, path-back, path-older}
-use Rattle.closure.proofs.Parents.{SoundHop, hop-sound, parents-are, parent-path}
+use Rattle.closure.proofs.Parents.{SoundHop, hop-sound, parents-are, parent-ends}
 
 -- ---- sound graphs
 
@@ -46,17 +46,17 @@ between-back G (x ∷ xs) (y ∷ ys) h m =
     (List·Memᴰ·cases-cons m)
 
 module _ (ts : List Term) (ls : List Literal) (table : List Term) where
-  -- a parent path is a path of the graph
+  -- a parent path is the path between two terms that the older edges join
+  pub parent-path : {h : Hop} → SoundHop ts ls table h → {π : Path} → List·Memᴰ π (parentPaths table h) → (a : ℕ) × (b : ℕ) × T (joined (h .older) a b) × (π ≡ path (h .older) a b)
+  parent-path s m = let r = parent-ends ts ls table s m in (r .0, r .1, r .4, r .5)
+
+  -- so it is a path of the graph
   pub parent-in : {h : Hop} {G : Graph} → SoundGraph ts ls table G → HopOf h G → {π : Path} → List·Memᴰ π (parentPaths table h) → (a : ℕ) × (b : ℕ) × IsPath G a b π
   parent-in {G = G} s of m =
-      let r = parent-path ts ls table (hop-sound ts ls table of s) m in
+      let r = parent-path (hop-sound ts ls table of s) m in
       let a = r .0 in
       let b = r .1 in
-      (a, b, subst (IsPath G a b) (sym (r .5 ∙ path-older a b of (r .4))) (path-is G a b (older-joined a b of (r .4))))
-
-  -- also of the edges older than its hop
-  pub parent-older : {h : Hop} → SoundHop ts ls table h → {π : Path} → List·Memᴰ π (parentPaths table h) → (a : ℕ) × (b : ℕ) × IsPath (h .older) a b π
-  parent-older {h} s m = let r = parent-path ts ls table s m in (r .0, r .1, subst (IsPath (h .older) (r .0) (r .1)) (sym (r .5)) (path-is (h .older) (r .0) (r .1) (r .4)))
+      (a, b, subst (IsPath G a b) (sym (r .3 ∙ path-older a b of (r .2))) (path-is G a b (older-joined a b of (r .2))))
 
   -- the hop walked the other way has the parent path backwards
   pub parent-back : {h : Hop} → SoundHop ts ls table h → {π : Path} → List·Memᴰ π (parentPaths table h) → List·Memᴰ (backwards π) (parentPaths table (turned h))

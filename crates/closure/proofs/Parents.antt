@@ -112,12 +112,12 @@ module _ (ts : List Term) (ls : List Literal) (table : List Term) where
       go derived e b n = (e, and-right (eqb (termAt table (h .from) .symbol) (termAt table (h .to) .symbol)) (joinedPairwise (h .older) as′ bs) b, n)
 
   -- a parent path is the path over older edges between an argument of the one end and one of the other, which these join
-  pub parent-path : {h : Hop} → SoundHop ts ls table h → {π : Path} → List·Memᴰ π (parentPaths table h) → (a : ℕ) × (b : ℕ) × List·Memᴰ a (termAt table (h .from) .arguments) × List·Memᴰ b (termAt table (h .to) .arguments) × T (joined (h .older) a b) × (π ≡ path (h .older) a b)
-  parent-path {h} s m = let r = parents-are s m in between-path (h .older) (termAt table (h .from) .arguments) (termAt table (h .to) .arguments) (r .1) (r .2)
+  pub parent-ends : {h : Hop} → SoundHop ts ls table h → {π : Path} → List·Memᴰ π (parentPaths table h) → (a : ℕ) × (b : ℕ) × List·Memᴰ a (termAt table (h .from) .arguments) × List·Memᴰ b (termAt table (h .to) .arguments) × T (joined (h .older) a b) × (π ≡ path (h .older) a b)
+  parent-ends {h} s m = let r = parents-are s m in between-path (h .older) (termAt table (h .from) .arguments) (termAt table (h .to) .arguments) (r .1) (r .2)
 
   -- so it is a walk between them
   pub parent-walk : {h : Hop} → SoundHop ts ls table h → (π : Path) → List·Memᴰ π (parentPaths table h) → (a : ℕ) × (b : ℕ) × List·Memᴰ a (termAt table (h .from) .arguments) × List·Memᴰ b (termAt table (h .to) .arguments) × Walk (h .older) a b π
-  parent-walk {h} s π m = let r = parent-path s m in (r .0, r .1, r .2, r .3, subst (Walk (h .older) (r .0) (r .1)) (sym (r .5)) (path-walk (h .older) (r .0) (r .1) (r .4)))
+  parent-walk {h} s π m = let r = parent-ends s m in (r .0, r .1, r .2, r .3, subst (Walk (h .older) (r .0) (r .1)) (sym (r .5)) (path-walk (h .older) (r .0) (r .1) (r .4)))
 
   -- A function of terms has one value at both ends of a hop when it has on both sides of each equality record of the hop's colour, follows symbol
   -- and arguments, and has one value at both ends of each parent path.
