@@ -1,3 +1,4 @@
 -- Theorems about the definitions of specs/.
 pub mod Bench
 pub mod AddedTerms
+pub mod WrittenClauses
