@@ -27,7 +27,8 @@ use Rattle.clauses.specs.Premises.{premises, pathClauses}
 use Rattle.clauses.specs.Reading.{Stretches, stretches, notMiddle, outerPremises, readA, readBetween, summary}
 use Rattle.clauses.specs.Truth.{TrueConclusion, TrueClause, TrueClauses, SharedPair, SharedConclusion, SharedClause}
 use Rattle.clauses.proofs.Members.{empty-clauses}
-use Rattle.clauses.proofs.Truths.{Keeps, premise-path, between-true, true-between, premises-agree, clauses-hold, clauses-agree}
+use Rattle.clauses.proofs.Order.{between-true}
+use Rattle.clauses.proofs.Truths.{Keeps, premise-path, premises-agree, clauses-hold, clauses-agree}
 use Rattle.clauses.proofs.Shared.{Coloured, BothColoured, between-shared, shared-coloured, walk-coloured, premises-shared, clauses-shared}
 use Rattle.clauses.proofs.Stretches.{Divided, stretches-divided, middle-cases}
 
@@ -150,14 +151,14 @@ module _ (ts : List Term) (ls : List Literal) (table : List Term) (low : LowerAr
     not-middle : TrueConclusion I table (notMiddle (z .middle)) → value I table (div .first) ≡ value I table (div .last) → ⊥
     not-middle c q =
         ⊎-elim (λ e. subst (TrueConclusion I table) (e .2) c)
-        (λ e. let d : TrueConclusion I table (differs (between (div .first) (div .last))) = subst (TrueConclusion I table) e c in d (between-true ts ls table low I (div .first) (div .last) q))
+        (λ e. let d : TrueConclusion I table (differs (between (div .first) (div .last))) = subst (TrueConclusion I table) e c in d (between-true I table (div .first) (div .last) .1 q))
         (middle-cases (div .middle-walk))
 
     -- and holds where they do
     middle-not : (value I table (div .first) ≡ value I table (div .last) → ⊥) → TrueConclusion I table (notMiddle (z .middle))
     middle-not n =
         ⊎-elim (λ e. subst (TrueConclusion I table) (sym (e .2)) (n (ap (value I table) (e .1))))
-        (λ e. let d : TrueConclusion I table (differs (between (div .first) (div .last))) = λ q. n (true-between ts ls table low I (div .first) (div .last) q) in subst (TrueConclusion I table) (sym e) d)
+        (λ e. let d : TrueConclusion I table (differs (between (div .first) (div .last))) = λ q. n (between-true I table (div .first) (div .last) .0 q) in subst (TrueConclusion I table) (sym e) d)
         (middle-cases (div .middle-walk))
 
     -- A with the disequality gives every clause

@@ -8,3 +8,5 @@ pub mod Interpolation
 pub mod Meaning
 pub mod Order
 pub mod Records
+pub mod Backwards
+pub mod OneClause

@@ -465,7 +465,7 @@ between-cases u v = by-test (ltb u v)
     (λ e. inr (nltb→le u v (fails (ltb u v) e), ap (λ (b : Bool). cond b (pair u v) (pair v u)) e))
 
 -- a property of a pair that both (u, v) and (v, u) have is one of [p]
-pub between-either : (P : Pair → Type 0) (u v : ℕ) → P (pair u v) → P (pair v u) → P (between u v)
+pub between-either {ℓ} : (P : Pair → Type ℓ) (u v : ℕ) → P (pair u v) → P (pair v u) → P (between u v)
 between-either P u v h k = ⊎-elim (λ c. subst P (sym (c .1)) h) (λ c. subst P (sym (c .1)) k) (between-cases u v)
 
 -- "Left is below right", where the ends differ and are below n

@@ -99,13 +99,13 @@ module _ (inB : ℕ → Bool) (G : Graph) (v : ℕ) where
           }
 
 -- a walk ends where its hops do
-pub walk-end : {G : Graph} {u v : ℕ} {π : Path} → Walk G u v π → endOf u π ≡ v
+pub endOf-walk : {G : Graph} {u v : ℕ} {π : Path} → Walk G u v π → endOf u π ≡ v
 unfolding endOf
-walk-end (stay q) = q
-walk-end (hop k q w) = walk-end w
+endOf-walk (stay q) = q
+endOf-walk (hop k q w) = endOf-walk w
 
 -- "not [middle]" speaks of the ends of the middle stretch, unless that is empty
 pub middle-cases : {G : Graph} {x y : ℕ} {π : Path} → Walk G x y π → ((π ≡ []) × (x ≡ y) × (notMiddle π ≡ falsum)) ⊎ (notMiddle π ≡ differs (between x y))
 unfolding notMiddle
 middle-cases (stay q) = inl (refl, q, refl)
-middle-cases (hop {h = h} {π = π} k q w) = inr (λ i. differs (between (sym q i) (walk-end w i)))
+middle-cases (hop {h = h} {π = π} k q w) = inr (λ i. differs (between (sym q i) (endOf-walk w i)))

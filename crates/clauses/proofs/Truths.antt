@@ -1,13 +1,12 @@
 -- Truth along a walk: A and a walk's premises give its ends equal; so A gives each path clause; B and the path clauses give the ends equal.
-use mathlib.Core.Bool.{Bool, true, false, cond}
 use mathlib.Core.List.{List, map, List·Memᴰ}
 use mathlib.Core.Logic.{_⊎_, inl, inr}
 use mathlib.Core.Path.{_≡_, refl, sym, ap, ap₂, subst, _∙_}
 use Prim.Native.Nat.{ℕ, zero, suc, _≤_, _<_}
 use native.Mathlib.Omega.{arith}
-use lib.Dec.{T, ltb}
+use lib.Dec.{T}
 use lib.ListN.{length}
-use Rattle.tables.specs.Words.{Pair, pair}
+use Rattle.tables.specs.Words.{Pair}
 use Rattle.tables.specs.Terms.{Term, termAt, LowerArguments}
 use Rattle.tables.specs.LiteralTable.{Literal, equal}
 use Rattle.tables.specs.declared.Side.{Side}
@@ -25,25 +24,16 @@ use Rattle.clauses.specs.Factors.{Factor, factors}
 use Rattle.clauses.specs.Premises.{endsOf, premises, pathClauses}
 use Rattle.clauses.specs.Truth.{TrueEquality, TrueClause, TrueClauses}
 use Rattle.clauses.proofs.Factors.{factors-stretch, factor-hop, factor-walk, walk-chain, chain-agree, walk-agree}
+use Rattle.clauses.proofs.Order.{between-either, between-true}
 use Rattle.clauses.proofs.Members.{factorClause, PremiseAt, own-at, parent-at, ClauseAt, inside-at, whole-at, under-at, premise-at, at-premise, clause-at, at-clause, edge-premise, premise-edge, no-premise, no-clause}
 
 -- [p] names both ends, in whichever order: what holds of u and v, and of v and u, holds of its sides
 pub between-sides {ℓ} : (P : ℕ → ℕ → Type ℓ) (u v : ℕ) → P u v → P v u → P (between u v .left) (between u v .right)
-unfolding between
-between-sides P u v h k = go (ltb u v)
-  where
-    go : (b : Bool) → P ((cond b (pair u v) (pair v u)) .left) ((cond b (pair u v) (pair v u)) .right)
-    go true = h
-    go false = k
+between-sides P u v h k = between-either (λ p. P (p .left) (p .right)) u v h k
 
 -- and back
 pub sides-between {ℓ} : (P : ℕ → ℕ → Type ℓ) → ((x y : ℕ) → P x y → P y x) → (u v : ℕ) → P (between u v .left) (between u v .right) → P u v
-unfolding between
-sides-between P turn u v = go (ltb u v)
-  where
-    go : (b : Bool) → P ((cond b (pair u v) (pair v u)) .left) ((cond b (pair u v) (pair v u)) .right) → P u v
-    go true h = h
-    go false h = turn v u h
+sides-between P turn u v = between-either (λ p. P (p .left) (p .right) → P u v) u v (λ h. h) (λ h. turn v u h)
 
 -- a graph without edges has no hop, so the ends of a walk are one
 pub walk-still : {G : Graph} {u v : ℕ} {π : Path} → length G ≤ zero → Walk G u v π → u ≡ v
@@ -127,20 +117,12 @@ module _ (ts : List Term) (ls : List Literal) (table : List Term) (low : LowerAr
       go f m (inl e) = stretch-agree X keeps s (factor-walk w m) (λ h n. factors-stretch π m .one-colour h n ∙ e) (parents f m e)
       go f m (inr e) = others f m e
 
-  -- [p] is true where its ends have one value
-  pub between-true : (u v : ℕ) → value I table u ≡ value I table v → TrueEquality I table (between u v)
-  between-true u v e = between-sides (λ x y. value I table x ≡ value I table y) u v e (sym e)
-
-  -- and back
-  pub true-between : (u v : ℕ) → TrueEquality I table (between u v) → value I table u ≡ value I table v
-  true-between u v e = sides-between (λ x y. value I table x ≡ value I table y) (λ x y q. sym q) u v e
-
   -- (a) A and the premises of a walk give its ends equal
   pub premises-agree : Keeps A → (d : ℕ) {G : Graph} {u v : ℕ} {π : Path} → length G ≤ d → SoundGraph ts ls table G → Walk G u v π → ((p : Pair) → List·Memᴰ p (premises d table π) → TrueEquality I table p) → value I table u ≡ value I table v
   premises-agree keeps zero fits s w given = ap (value I table) (walk-still fits w)
   premises-agree keeps (suc d) {π = π} fits s w given =
       factors-agree A keeps s w
-      (λ f m e. true-between (f .from) (f .to) (given (endsOf f) (at-premise table d (endsOf f) π (own-at m e refl))))
+      (λ f m e. between-true I table (f .from) (f .to) .0 (given (endsOf f) (at-premise table d (endsOf f) π (own-at m e refl))))
       (λ f m e h n ρ o a b w′. let of = factor-hopOf w m n in premises-agree keeps d (older-fits fits of) (older-sound ts ls table s of) w′ (λ p k. given p (at-premise table d p π (parent-at m e n o k))))
 
   -- (b) A gives each path clause
@@ -155,7 +137,7 @@ module _ (ts : List Term) (ls : List Literal) (table : List Term) (low : LowerAr
           ih (h .older) (r .0) (r .1) ρ (older-fits fits of) (older-sound ts ls table s of) (r .4) x
       go (whole-at {f = f} k e q) ih =
           subst (TrueClause I table) (sym q)
-          (λ given. between-true (f .from) (f .to) (stretch-agree A keeps s (factor-walk w k) (λ h n. factors-stretch π k .one-colour h n ∙ e) (λ h n ρ o a b w′. let of = factor-hopOf w k n in premises-agree keeps d (older-fits fits of) (older-sound ts ls table s of) w′ (λ p x. given p (premise-edge table d f n o x)))))
+          (λ given. between-true I table (f .from) (f .to) .1 (stretch-agree A keeps s (factor-walk w k) (λ h n. factors-stretch π k .one-colour h n ∙ e) (λ h n ρ o a b w′. let of = factor-hopOf w k n in premises-agree keeps d (older-fits fits of) (older-sound ts ls table s of) w′ (λ p x. given p (premise-edge table d f n o x)))))
       go (under-at {h = h} {p = p} k e n o x y) ih =
           let of = factor-hopOf w k n in
           ih (h .older) (p .left) (p .right) (path (h .older) (p .left) (p .right)) (older-fits fits of) (older-sound ts ls table s of) (premise-below ts ls table d p s of o x) y
@@ -165,5 +147,5 @@ module _ (ts : List Term) (ls : List Literal) (table : List Term) (low : LowerAr
   clauses-agree keeps zero fits s w given = ap (value I table) (walk-still fits w)
   clauses-agree keeps (suc d) {π = π} fits s w given =
       factors-agree B keeps s w
-      (λ f m e. true-between (f .from) (f .to) (given (factorClause table d f) (at-clause table d (factorClause table d f) π (whole-at m e refl)) (λ p k. let q = edge-premise table d f k in let of = factor-hopOf w m (q .2) in clauses-agree keeps d (older-fits fits of) (older-sound ts ls table s of) (premise-below ts ls table d p s of (q .3) (q .4)) (λ c n. given c (at-clause table d c π (under-at m e (q .2) (q .3) (q .4) n))))))
+      (λ f m e. between-true I table (f .from) (f .to) .0 (given (factorClause table d f) (at-clause table d (factorClause table d f) π (whole-at m e refl)) (λ p k. let q = edge-premise table d f k in let of = factor-hopOf w m (q .2) in clauses-agree keeps d (older-fits fits of) (older-sound ts ls table s of) (premise-below ts ls table d p s of (q .3) (q .4)) (λ c n. given c (at-clause table d c π (under-at m e (q .2) (q .3) (q .4) n))))))
       (λ f m e h n ρ o a b w′. let of = factor-hopOf w m n in clauses-agree keeps d (older-fits fits of) (older-sound ts ls table s of) w′ (λ c k. given c (at-clause table d c π (inside-at m e n o k))))

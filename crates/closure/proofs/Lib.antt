@@ -4,6 +4,7 @@ pub mod Walks
 pub mod Invariant
 pub mod OnePath
 pub mod Parents
+pub mod ParentPaths
 pub mod Count
 pub mod Congruent
 pub mod Larger
@@ -12,11 +13,11 @@ pub mod States
 pub mod MiddleStep
 pub mod Runs
 pub mod EdgesAndSteps
+pub mod FewSteps
 pub mod Values
 pub mod SharedTerm
 pub mod OwnSteps
 pub mod OwnRun
-pub mod FewSteps
 pub mod Model
 pub mod Classes
 pub mod AllRuns

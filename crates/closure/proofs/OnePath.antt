@@ -9,7 +9,7 @@ use Rattle.tables.proofs.Words.{decide}
 use Rattle.closure.specs.Graph.{Edge, Graph, Hop, Path, forth, back, joined, path, vertices}
 use Rattle.closure.specs.Walks.{HopOf, onward, backward, earlier, Walk, stay, hop, Once, nothing, new, IsPath}
 use Rattle.closure.proofs.Joined.{joined-self, joined-sym, joined-trans, joined-cases}
-use Rattle.closure.proofs.Walks.{older-joined, walk-joined, walk-append, walk-hop, path-aside, path-forward, path-backward, path-walk}
+use Rattle.closure.proofs.Walks.{older-joined, walk-joined, walk-append, path-aside, path-forward, path-backward, path-walk}
 use Rattle.closure.proofs.Invariant.{Unjoined, Forest}
 
 -- ---- lists without repetition
@@ -195,10 +195,6 @@ path-is G u v j = record { walk = path-walk G u v j; once = path-once G u v j }
 -- every vertex on a path is joined to its start
 pub path-vertex-joined : (G : Graph) (u v : ℕ) → T (joined G u v) → {x : ℕ} → List·Memᴰ x (vertices u (path G u v)) → T (joined G u x)
 path-vertex-joined G u v j m = vertex-joined (path-walk G u v j) m
-
--- every hop of a path is one of the graph
-pub path-hop : (G : Graph) (u v : ℕ) → T (joined G u v) → {h : Hop} → List·Memᴰ h (path G u v) → HopOf h G
-path-hop G u v j m = walk-hop (path-walk G u v j) m
 
 -- the path from the other end is the path walked backwards
 pub path-back : (G : Graph) (u v : ℕ) → T (joined G u v) → path G v u ≡ backwards (path G u v)

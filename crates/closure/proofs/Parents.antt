@@ -28,16 +28,15 @@ joinedPairwise-sym G (x ∷ xs) [] h = h
 joinedPairwise-sym G (x ∷ xs) (y ∷ ys) h =
     and-both (joined G y x) (joinedPairwise G ys xs) (joined-sym G x y (and-left (joined G x y) (joinedPairwise G xs ys) h)) (joinedPairwise-sym G xs ys (and-right (joined G x y) (joinedPairwise G xs ys) h))
 
--- each of the paths between them is a walk from a term of the one list to a term of the other
-pub between-walk : (G : Graph) (xs ys : List ℕ) → T (joinedPairwise G xs ys) → (π : Path) → List·Memᴰ π (pathsBetween G xs ys) → (a : ℕ) × (b : ℕ) × List·Memᴰ a xs × List·Memᴰ b ys × Walk G a b π
+-- each of the paths between them is the path from a term of the one list to a term of the other that it is joined to
+pub between-path : (G : Graph) (xs ys : List ℕ) → T (joinedPairwise G xs ys) → {π : Path} → List·Memᴰ π (pathsBetween G xs ys) → (a : ℕ) × (b : ℕ) × List·Memᴰ a xs × List·Memᴰ b ys × T (joined G a b) × (π ≡ path G a b)
 unfolding joinedPairwise pathsBetween zipWith
-between-walk G [] [] h π m = absurd (List·Memᴰ·not-nil m)
-between-walk G [] (y ∷ ys) h π m = absurd h
-between-walk G (x ∷ xs) [] h π m = absurd h
-between-walk G (x ∷ xs) (y ∷ ys) h π m =
-    ⊎-elim
-    (λ e. (x, y, List·Memᴰ·head refl, List·Memᴰ·head refl, subst (Walk G x y) (sym e) (path-walk G x y (and-left (joined G x y) (joinedPairwise G xs ys) h))))
-    (λ k. let r = between-walk G xs ys (and-right (joined G x y) (joinedPairwise G xs ys) h) π k in (r .0, r .1, List·Memᴰ·tail (r .2), List·Memᴰ·tail (r .3), r .4))
+between-path G [] [] h m = absurd (List·Memᴰ·not-nil m)
+between-path G [] (y ∷ ys) h m = absurd h
+between-path G (x ∷ xs) [] h m = absurd h
+between-path G (x ∷ xs) (y ∷ ys) h m =
+    ⊎-elim (λ e. (x, y, List·Memᴰ·head refl, List·Memᴰ·head refl, and-left (joined G x y) (joinedPairwise G xs ys) h, e))
+    (λ k. let r = between-path G xs ys (and-right (joined G x y) (joinedPairwise G xs ys) h) k in (r .0, r .1, List·Memᴰ·tail (r .2), List·Memᴰ·tail (r .3), r .4, r .5))
     (List·Memᴰ·cases-cons m)
 
 -- a function that has one value at both ends of each of these paths has the same values on both lists
@@ -97,10 +96,10 @@ module _ (ts : List Term) (ls : List Literal) (table : List Term) where
           let turned : SoundHop ts ls table (back e (h .older)) = record { behind = behind-back (h .older) e (e .kind) (s .behind); from-coloured = right-coloured e (s .coloured); to-coloured = left-coloured e (s .coloured); from-within = s .right-within; to-within = s .left-within } in
           ⊎-elim (λ q. subst (SoundHop ts ls table) (sym q) forward) (λ q. subst (SoundHop ts ls table) (sym q) turned) (r .2)
 
-  -- a parent path is a walk over older edges, between an argument of the one end and one of the other
-  pub parent-walk : {h : Hop} → SoundHop ts ls table h → (π : Path) → List·Memᴰ π (parentPaths table h) → (a : ℕ) × (b : ℕ) × List·Memᴰ a (termAt table (h .from) .arguments) × List·Memᴰ b (termAt table (h .to) .arguments) × Walk (h .older) a b π
+  -- only a derived edge has parent paths: they are the paths between the arguments of its ends, which the older edges join pair by pair
+  pub parents-are : {h : Hop} → SoundHop ts ls table h → {π : Path} → List·Memᴰ π (parentPaths table h) → (h .kind ≡ derived) × T (joinedPairwise (h .older) (termAt table (h .from) .arguments) (termAt table (h .to) .arguments)) × List·Memᴰ π (pathsBetween (h .older) (termAt table (h .from) .arguments) (termAt table (h .to) .arguments))
   unfolding parentPaths parentsOf congruent
-  parent-walk {h} s π m = go (h .kind) (s .behind) m
+  parents-are {h} s {π} m = go (h .kind) refl (s .behind) m
     where
       as′ : List ℕ
       as′ = termAt table (h .from) .arguments
@@ -108,9 +107,17 @@ module _ (ts : List Term) (ls : List Literal) (table : List Term) where
       bs : List ℕ
       bs = termAt table (h .to) .arguments
 
-      go : (k : EdgeKind) → Behind ls table (h .older) (walked h) k → List·Memᴰ π (parentsOf k (pathsBetween (h .older) as′ bs)) → (a : ℕ) × (b : ℕ) × List·Memᴰ a as′ × List·Memᴰ b bs × Walk (h .older) a b π
-      go basic b n = absurd (List·Memᴰ·not-nil n)
-      go derived b n = between-walk (h .older) as′ bs (and-right (eqb (termAt table (h .from) .symbol) (termAt table (h .to) .symbol)) (joinedPairwise (h .older) as′ bs) b) π n
+      go : (k : EdgeKind) → h .kind ≡ k → Behind ls table (h .older) (walked h) k → List·Memᴰ π (parentsOf k (pathsBetween (h .older) as′ bs)) → (h .kind ≡ derived) × T (joinedPairwise (h .older) as′ bs) × List·Memᴰ π (pathsBetween (h .older) as′ bs)
+      go basic e b n = absurd (List·Memᴰ·not-nil n)
+      go derived e b n = (e, and-right (eqb (termAt table (h .from) .symbol) (termAt table (h .to) .symbol)) (joinedPairwise (h .older) as′ bs) b, n)
+
+  -- a parent path is the path over older edges between an argument of the one end and one of the other, which these join
+  pub parent-ends : {h : Hop} → SoundHop ts ls table h → {π : Path} → List·Memᴰ π (parentPaths table h) → (a : ℕ) × (b : ℕ) × List·Memᴰ a (termAt table (h .from) .arguments) × List·Memᴰ b (termAt table (h .to) .arguments) × T (joined (h .older) a b) × (π ≡ path (h .older) a b)
+  parent-ends {h} s m = let r = parents-are s m in between-path (h .older) (termAt table (h .from) .arguments) (termAt table (h .to) .arguments) (r .1) (r .2)
+
+  -- so it is a walk between them
+  pub parent-walk : {h : Hop} → SoundHop ts ls table h → (π : Path) → List·Memᴰ π (parentPaths table h) → (a : ℕ) × (b : ℕ) × List·Memᴰ a (termAt table (h .from) .arguments) × List·Memᴰ b (termAt table (h .to) .arguments) × Walk (h .older) a b π
+  parent-walk {h} s π m = let r = parent-ends s m in (r .0, r .1, r .2, r .3, subst (Walk (h .older) (r .0) (r .1)) (sym (r .5)) (path-walk (h .older) (r .0) (r .1) (r .4)))
 
   -- A function of terms has one value at both ends of a hop when it has on both sides of each equality record of the hop's colour, follows symbol
   -- and arguments, and has one value at both ends of each parent path.
