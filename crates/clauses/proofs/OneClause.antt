@@ -30,7 +30,7 @@ use Rattle.clauses.specs.Premises.{endsOf, pathClauses, Premise, own, pa
 use Rattle.clauses.specs.Reading.{Stretches, endOf, stretches, notMiddle, outerPremises, premisesIn, clausesIn, readA, readBetween, summary}
 use Rattle.clauses.specs.Records.{isLast, inOrder, clauseRecords}
 use Rattle.clauses.specs.ReadBack.{clausesRead}
-use Rattle.clauses.specs.Truth.{TrueClauses, SharedClause}
+use Rattle.clauses.specs.Truth.{TrueClauses, SharedClause, Summarises}
 use Rattle.clauses.proofs.Factors.{Stretch, last-one, allHops, factors-whole, factors-stretch, longest-factors, factor-walk}
 use Rattle.clauses.proofs.Truths.{between-sides, factor-hopOf, older-sound, parent-below, premise-joined}
 use Rattle.clauses.proofs.Shared.{walk-carries}
@@ -306,12 +306,6 @@ written-said n cs rest fits one c m =
 -- and every clause of the list is read back
 pub said-written : (n : ℕ) (cs : List Clause) (rest : List ℕ) → n ≤ 65536 → OneEach n cs → (c : Clause) → List·Memᴰ c cs → List·Memᴰ (inOrder n c) (writtenClauses n cs rest)
 said-written n cs rest fits one c m = subst (λ (ds : List Clause). List·Memᴰ (inOrder n c) ds) (sym (read-back-bytes n cs rest fits (λ d k h. one .within d k .conclusion-within))) (all-standing n cs one c m)
-
--- what demand 3 says of a summary: only shared symbols, true in every interpretation that satisfies A, and never all true in one that satisfies B
-pub record Summarises (ts : List Term) (ls : List Literal) (table : List Term) (cs : List Clause) : Type 1 where
-  pub shared : (c : Clause) → List·Memᴰ c cs → SharedClause ts ls table c
-  pub follows-from-A : (I : Interpretation) → Satisfies I ts ls A → TrueClauses I table cs
-  pub contradicts-B : (I : Interpretation) → Satisfies I ts ls B → TrueClauses I table cs → ⊥
 
 module _ (ts more : List Term) (ls : List Literal) (low : LowerArguments (ts ++ more)) (within : SidesWithin ts ls) (G : Graph) (sound : SoundGraph ts ls (ts ++ more) G) (l : Literal) (stands : List·Memᴰ l ls) (differ : l .kind ≡ different) (meet : T (joined G (l .left) (l .right))) where
   -- all clauses of the summary but the last come from paths of the graph

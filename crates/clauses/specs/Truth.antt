@@ -10,7 +10,7 @@ use Rattle.tables.specs.LiteralTable.{Literal}
 use Rattle.tables.specs.declared.Side.{Side}
 use Rattle.tables.specs.declared.Side.the-variants.{A, B}
 use Rattle.tables.specs.Colours.{occursIn}
-use Rattle.tables.specs.Interpretations.{Interpretation, value}
+use Rattle.tables.specs.Interpretations.{Interpretation, value, Satisfies}
 use Rattle.clauses.specs.Clauses.{Clause, Conclusion, equals, differs, falsum}
 
 -- the equality of a pair is true
@@ -45,3 +45,9 @@ SharedConclusion ts ls table falsum = Unit {0}
 -- "use only shared symbols"
 abbrev pub SharedClause : List Term → List Literal → List Term → Clause → Type 0
 SharedClause ts ls table c = ((p : Pair) → List·Memᴰ p (c .premises) → SharedPair ts ls table p) × SharedConclusion ts ls table (c .conclusion)
+
+-- demand 3 of a summary: "use only shared symbols, hold in every interpretation that satisfies A, and are never all true in one that satisfies B"
+pub record Summarises (ts : List Term) (ls : List Literal) (table : List Term) (cs : List Clause) : Type 1 where
+  pub shared : (c : Clause) → List·Memᴰ c cs → SharedClause ts ls table c
+  pub follows-from-A : (I : Interpretation) → Satisfies I ts ls A → TrueClauses I table cs
+  pub contradicts-B : (I : Interpretation) → Satisfies I ts ls B → TrueClauses I table cs → ⊥

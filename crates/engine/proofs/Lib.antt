@@ -1,6 +1,6 @@
 -- Theorems about the definitions of specs/.
 pub mod Bench
 pub mod AddedTerms
-pub mod WrittenClauses
+pub mod Critical
 pub mod Ways
 pub mod Partition
