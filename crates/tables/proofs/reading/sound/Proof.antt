@@ -1,7 +1,7 @@
 -- `sound` meets its contract: the arrays hold the columns of sound tables, so the marks and colours are those of the definitions.
-use Prim.Native.Nat.{_/_}
-use lib.ListN.{length}
 use borrow.Author.Needs.{needs}
+use Rattle.tables.specs.TermTable.{termCount}
+use Rattle.tables.specs.LiteralTable.{literalCount}
 use Rattle.tables.specs.Read.{soundTables}
 use Rattle.tables.specs.declared.Check.the-variants.{Sound}
 use Rattle.tables.proofs.Sound.{sound}
@@ -72,26 +72,27 @@ colours-requires c κs = (columns-lower (known (c .before .before .before .befor
 returns : tie.Need-returns
 unfolding soundTables
 returns c =
+    let k = known (c .before .before .before .before .before .before .before .before .before .before .before .before .before .before .before .before .before .before .before .before .before .before .before .before .before .before) in
     let a = c .before .before .before .before .before .before .before .before .before .before .before .before .before .before .before .before .before .before .before .before .inside in
     let b = c .before .before .before .before .before .before .before .before .before .before .before .before .before .before .inside2 in
     let in-use = c .before .before .before .before .before .before .before .before .before .before .before .in-use in
     let in-a = c .before .before .before .before .before .before .before .before .occurring in
     let in-b = c .before .before .before .before .before .occurring2 in
-    let used = columns-used (known (c .before .before .before .before .before .before .before .before .before .before .before .before .before .before .before .before .before .before .before .before .before .before .before .before .before .before)) (a .result) (b .result) (a .ensures) (b .ensures) (in-use .result) (in-use .ensures) in
-    let colours = columns-colours (known (c .before .before .before .before .before .before .before .before .before .before .before .before .before .before .before .before .before .before .before .before .before .before .before .before .before .before)) (a .result) (b .result) (a .ensures) (b .ensures) (in-a .result) (in-b .result) (c .colours .result) (in-a .ensures) (in-b .ensures) (c .colours .ensures) in
+    let used = columns-used k (a .result) (b .result) (a .ensures) (b .ensures) (in-use .result) (in-use .ensures) in
+    let colours = columns-colours k (a .result) (b .result) (a .ensures) (b .ensures) (in-a .result) (in-b .result) (c .colours .result) (in-a .ensures) (in-b .ensures) (c .colours .ensures) in
     λ i.
     record {
       check = Sound;
-      terms = length (c .before .before .before .before .before .before .before .before .before .before .before .before .before .before .before .before .before .before .before .before .before .before .before .before .before .before .before .before .before .before .before .before .before .before .before .args .terms .now) / 16;
-      literals = length (c .before .before .before .before .before .before .before .before .before .before .before .before .before .before .before .before .before .before .before .before .before .before .before .before .before .before .before .before .before .before .before .before .before .before .before .args .literals .now) / 8;
-      symbols = c .before .before .before .before .before .before .before .before .before .before .before .before .before .before .before .before .before .before .before .before .before .before .before .before .before .before .before .before .before .before .before .before .term-words .ensures i;
-      arities = c .before .before .before .before .before .before .before .before .before .before .before .before .before .before .before .before .before .before .before .before .before .before .before .before .before .before .before .before .before .before .before .term-bytes .ensures i;
+      terms = termCount (k .bs);
+      literals = literalCount (k .ls);
+      symbols = k .symbols-read i;
+      arities = k .arities-read i;
       used = used i;
       colours = colours i;
-      sides = c .before .before .before .before .before .before .before .before .before .before .before .before .before .before .before .before .before .before .before .before .before .before .before .before .before .before .before .before .before .literal-bytes .ensures i;
+      sides = k .sides-read i;
       kinds = c .before .before .before .before .before .before .before .before .before .before .before .before .before .before .before .before .before .before .before .before .before .before .before .before .before .before .before .before .literal-bytes2 .ensures i;
-      lefts = c .before .before .before .before .before .before .before .before .before .before .before .before .before .before .before .before .before .before .before .before .before .before .before .before .before .before .before .literal-words .ensures i;
-      rights = c .before .before .before .before .before .before .before .before .before .before .before .before .before .before .before .before .before .before .before .before .before .before .before .before .before .before .literal-words2 .ensures i;
+      lefts = k .lefts-read i;
+      rights = k .rights-read i;
     }
 
 pub sound-spec : {M : Type 1} → statement M
