@@ -239,7 +239,15 @@ module _ (bs ls : List ℕ) (s : SoundTables bs ls) where
 -- ---- the arrays, as the code has them
 
 -- arrays that hold what the columns of sound tables hold
-pub record Columns (bs ls symbols arities : List ℕ) (rows : List (List ℕ)) (sides lefts rights : List ℕ) : Type 0 where
+pub record Columns : Type 0 where
+  pub bs : List ℕ
+  pub ls : List ℕ
+  pub symbols : List ℕ
+  pub arities : List ℕ
+  pub rows : List (List ℕ)
+  pub sides : List ℕ
+  pub lefts : List ℕ
+  pub rights : List ℕ
   pub tables : SoundTables bs ls
   pub symbols-read : symbols ≡ symbolColumn bs
   pub arities-read : arities ≡ arityColumn bs
@@ -248,50 +256,54 @@ pub record Columns (bs ls symbols arities : List ℕ) (rows : List (List ℕ)) (
   pub lefts-read : lefts ≡ leftColumn ls
   pub rights-read : rights ≡ rightColumn ls
 
-module _ (bs ls symbols arities : List ℕ) (rows : List (List ℕ)) (sides lefts rights : List ℕ) (c : Columns bs ls symbols arities rows sides lefts rights) where
+-- the terms of a side are marked in the arrays
+abbrev pub Marks : Columns → ℕ → List Bool → Type 0
+Marks c side marks = Inside (c .rows) (c .arities) (c .sides) (c .lefts) (c .rights) side (literalCount (c .ls)) marks
+
+module _ (c : Columns) where
   -- what holds of the columns holds of the arrays
-  columns-carry : (P : List (List ℕ) → List ℕ → List ℕ → List ℕ → List ℕ → Type 0) → P (argumentRows bs) (arityColumn bs) (sideColumn ls) (leftColumn ls) (rightColumn ls) → P rows arities sides lefts rights
+  columns-carry : (P : List (List ℕ) → List ℕ → List ℕ → List ℕ → List ℕ → Type 0) → P (argumentRows (c .bs)) (arityColumn (c .bs)) (sideColumn (c .ls)) (leftColumn (c .ls)) (rightColumn (c .ls)) → P (c .rows) (c .arities) (c .sides) (c .lefts) (c .rights)
   columns-carry P x =
-      subst (λ (r : List (List ℕ)). P r arities sides lefts rights) (sym (c .rows-read))
-      (subst (λ (a : List ℕ). P (argumentRows bs) a sides lefts rights) (sym (c .arities-read))
-      (subst (λ (d : List ℕ). P (argumentRows bs) (arityColumn bs) d lefts rights) (sym (c .sides-read))
-      (subst (λ (l : List ℕ). P (argumentRows bs) (arityColumn bs) (sideColumn ls) l rights) (sym (c .lefts-read))
-      (subst (λ (r : List ℕ). P (argumentRows bs) (arityColumn bs) (sideColumn ls) (leftColumn ls) r) (sym (c .rights-read)) x))))
+      subst (λ (r : List (List ℕ)). P r (c .arities) (c .sides) (c .lefts) (c .rights)) (sym (c .rows-read))
+      (subst (λ (a : List ℕ). P (argumentRows (c .bs)) a (c .sides) (c .lefts) (c .rights)) (sym (c .arities-read))
+      (subst (λ (d : List ℕ). P (argumentRows (c .bs)) (arityColumn (c .bs)) d (c .lefts) (c .rights)) (sym (c .sides-read))
+      (subst (λ (l : List ℕ). P (argumentRows (c .bs)) (arityColumn (c .bs)) (sideColumn (c .ls)) l (c .rights)) (sym (c .lefts-read))
+      (subst (λ (r : List ℕ). P (argumentRows (c .bs)) (arityColumn (c .bs)) (sideColumn (c .ls)) (leftColumn (c .ls)) r) (sym (c .rights-read)) x))))
 
   -- the rows are lower
-  pub columns-lower : LowerRows rows arities
-  columns-lower = columns-carry (λ r a d l t. LowerRows r a) (lower-rows bs ls (c .tables))
+  pub columns-lower : LowerRows (c .rows) (c .arities)
+  columns-lower = columns-carry (λ r a d l t. LowerRows r a) (lower-rows (c .bs) (c .ls) (c .tables))
 
   -- the literals' sides are term numbers
-  pub columns-within : LiteralsWithin lefts rights (literalCount ls)
-  columns-within = columns-carry (λ r a d l t. LiteralsWithin l t (literalCount ls)) (literals-within bs ls (c .tables))
+  pub columns-within : LiteralsWithin (c .lefts) (c .rights) (literalCount (c .ls))
+  columns-within = columns-carry (λ r a d l t. LiteralsWithin l t (literalCount (c .ls))) (literals-within (c .bs) (c .ls) (c .tables))
 
   -- the rows describe the terms
-  columns-described : Describes rows arities (termsOf bs)
-  columns-described = columns-carry (λ r a d l t. Describes r a (termsOf bs)) (described bs ls (c .tables))
+  columns-described : Describes (c .rows) (c .arities) (termsOf (c .bs))
+  columns-described = columns-carry (λ r a d l t. Describes r a (termsOf (c .bs))) (described (c .bs) (c .ls) (c .tables))
 
   -- marks of the arrays are marks of the columns
-  columns-inside : (side : ℕ) (marks : List Bool) → Inside rows arities sides lefts rights side (literalCount ls) marks → Inside (argumentRows bs) (arityColumn bs) (sideColumn ls) (leftColumn ls) (rightColumn ls) side (literalCount ls) marks
+  columns-inside : (side : ℕ) (marks : List Bool) → Marks c side marks → Inside (argumentRows (c .bs)) (arityColumn (c .bs)) (sideColumn (c .ls)) (leftColumn (c .ls)) (rightColumn (c .ls)) side (literalCount (c .ls)) marks
   columns-inside side marks =
       columns-carry
-      (λ r a d l t. Inside r a d l t side (literalCount ls) marks → Inside (argumentRows bs) (arityColumn bs) (sideColumn ls) (leftColumn ls) (rightColumn ls) side (literalCount ls) marks)
+      (λ r a d l t. Inside r a d l t side (literalCount (c .ls)) marks → Inside (argumentRows (c .bs)) (arityColumn (c .bs)) (sideColumn (c .ls)) (leftColumn (c .ls)) (rightColumn (c .ls)) side (literalCount (c .ls)) marks)
       (λ x. x)
 
-  module _ (a b : List Bool) (x : Inside rows arities sides lefts rights 1 (literalCount ls) a) (y : Inside rows arities sides lefts rights 2 (literalCount ls) b) where
-    -- the terms in use, as the code has them
-    pub columns-used : (used : List Bool) → used ≡ filled 256 false (termCount bs) (λ t. getD a t false || getD b t false) → used ≡ filled 256 false (termCount bs) (inUse (termsOf bs) (literalsOf ls))
-    columns-used used e = e ∙ used-read bs ls (c .tables) a b (columns-inside 1 a x) (columns-inside 2 b y)
+  -- what occurs according to the marks of a side
+  abbrev pub occurs-by : List Bool → List Bool
+  occurs-by marks = filled 256 false (termCount (c .bs)) (λ t. someBelow (sameSymbolInside (c .symbols) marks t) (termCount (c .bs)))
 
-    -- what occurs according to the marks of a side
-    abbrev occurs-by : List Bool → List Bool
-    occurs-by marks = filled 256 false (termCount bs) (λ t. someBelow (sameSymbolInside symbols marks t) (termCount bs))
+  module _ (a b : List Bool) (x : Marks c 1 a) (y : Marks c 2 b) where
+    -- the terms in use, as the code has them
+    pub columns-used : (used : List Bool) → used ≡ filled 256 false (termCount (c .bs)) (λ t. getD a t false || getD b t false) → used ≡ filled 256 false (termCount (c .bs)) (inUse (termsOf (c .bs)) (literalsOf (c .ls)))
+    columns-used used e = e ∙ used-read (c .bs) (c .ls) (c .tables) a b (columns-inside 1 a x) (columns-inside 2 b y)
 
     -- the colours, as the code has them
-    pub columns-colours : (in-a in-b : List Bool) (colours : List ℕ) → in-a ≡ occurs-by a → in-b ≡ occurs-by b → ((ts : List Term) → Describes rows arities ts → length ts ≡ termCount bs → colours ≡ filled 256 0 (termCount bs) (partsColour in-a in-b ts)) → colours ≡ filled 256 0 (termCount bs) (colourNumber (termsOf bs) (literalsOf ls) (termsOf bs))
+    pub columns-colours : (in-a in-b : List Bool) (colours : List ℕ) → in-a ≡ occurs-by a → in-b ≡ occurs-by b → ((ts : List Term) → Describes (c .rows) (c .arities) ts → length ts ≡ termCount (c .bs) → colours ≡ filled 256 0 (termCount (c .bs)) (partsColour in-a in-b ts)) → colours ≡ filled 256 0 (termCount (c .bs)) (colourNumber (termsOf (c .bs)) (literalsOf (c .ls)) (termsOf (c .bs)))
     columns-colours in-a in-b colours p q e =
-        e (termsOf bs) columns-described (length-termsOf bs) ∙
-        ap₂ (λ (u v : List Bool). filled 256 0 (termCount bs) (partsColour u v (termsOf bs))) (p ∙ by a) (q ∙ by b) ∙
-        colours-read bs ls (c .tables) a b (columns-inside 1 a x) (columns-inside 2 b y)
+        e (termsOf (c .bs)) columns-described (length-termsOf (c .bs)) ∙
+        ap₂ (λ (u v : List Bool). filled 256 0 (termCount (c .bs)) (partsColour u v (termsOf (c .bs)))) (p ∙ by a) (q ∙ by b) ∙
+        colours-read (c .bs) (c .ls) (c .tables) a b (columns-inside 1 a x) (columns-inside 2 b y)
       where
-        by : (marks : List Bool) → occurs-by marks ≡ filled 256 false (termCount bs) (λ t. someBelow (sameSymbolInside (symbolColumn bs) marks t) (termCount bs))
-        by marks = ap (λ (s : List ℕ). filled 256 false (termCount bs) (λ t. someBelow (sameSymbolInside s marks t) (termCount bs))) (c .symbols-read)
+        by : (marks : List Bool) → occurs-by marks ≡ filled 256 false (termCount (c .bs)) (λ t. someBelow (sameSymbolInside (symbolColumn (c .bs)) marks t) (termCount (c .bs)))
+        by marks = ap (λ (s : List ℕ). filled 256 false (termCount (c .bs)) (λ t. someBelow (sameSymbolInside s marks t) (termCount (c .bs)))) (c .symbols-read)

@@ -1,7 +1,7 @@
 -- `sound` meets its contract: the arrays hold the columns of sound tables, so the marks and colours are those of the definitions.
-use Prim.Native.Nat.{_/_}
-use lib.ListN.{length}
 use borrow.Author.Needs.{needs}
+use Rattle.tables.specs.TermTable.{termCount}
+use Rattle.tables.specs.LiteralTable.{literalCount}
 use Rattle.tables.specs.Read.{soundTables}
 use Rattle.tables.specs.declared.Check.the-variants.{Sound}
 use Rattle.tables.proofs.Sound.{sound}
@@ -10,9 +10,17 @@ use Rattle.tables.proofs.reading.sound.Statement.{statement}
 use Rattle.tables.proofs.reading.sound.Tie as tie
 
 -- the arrays that were read, up to the right sides, hold the columns
-known : (c : tie.After-literal-words2) → Columns (c .before .before .before .before .before .before .before .before .before .args .terms .now) (c .before .before .before .before .before .before .before .before .before .args .literals .now) (c .before .before .before .before .before .before .term-words .result) (c .before .before .before .before .before .term-bytes .result) (c .before .before .before .before .rows .result) (c .before .before .before .literal-bytes .result) (c .before .literal-words .result) (c .literal-words2 .result)
+abbrev known : tie.After-literal-words2 → Columns
 known c =
     record {
+      bs = c .before .before .before .before .before .before .before .before .before .args .terms .now;
+      ls = c .before .before .before .before .before .before .before .before .before .args .literals .now;
+      symbols = c .before .before .before .before .before .before .term-words .result;
+      arities = c .before .before .before .before .before .term-bytes .result;
+      rows = c .before .before .before .before .rows .result;
+      sides = c .before .before .before .literal-bytes .result;
+      lefts = c .before .literal-words .result;
+      rights = c .literal-words2 .result;
       tables = sound (c .before .before .before .before .before .before .before .before .before .args .terms .now) (c .before .before .before .before .before .before .before .before .before .args .literals .now) (c .before .before .before .before .before .before .before .before .before .pre);
       symbols-read = c .before .before .before .before .before .before .term-words .ensures;
       arities-read = c .before .before .before .before .before .term-bytes .ensures;
@@ -44,10 +52,10 @@ literal-words-requires-2 : tie.Need-literal-words-requires-2
 literal-words-requires-2 c κs = search needs
 
 inside-requires : tie.Need-inside-requires
-inside-requires c κs = (columns-lower (c .before .before .before .before .before .before .before .before .before .before .before .before .before .before .args .terms .now) (c .before .before .before .before .before .before .before .before .before .before .before .before .before .before .args .literals .now) (c .before .before .before .before .before .before .before .before .before .before .before .term-words .result) (c .before .before .before .before .before .before .before .before .before .before .term-bytes .result) (c .before .before .before .before .before .before .before .before .before .rows .result) (c .before .before .before .before .before .before .before .before .literal-bytes .result) (c .before .before .before .before .before .before .literal-words .result) (c .before .before .before .before .before .literal-words2 .result) (known (c .before .before .before .before .before)), columns-within (c .before .before .before .before .before .before .before .before .before .before .before .before .before .before .args .terms .now) (c .before .before .before .before .before .before .before .before .before .before .before .before .before .before .args .literals .now) (c .before .before .before .before .before .before .before .before .before .before .before .term-words .result) (c .before .before .before .before .before .before .before .before .before .before .term-bytes .result) (c .before .before .before .before .before .before .before .before .before .rows .result) (c .before .before .before .before .before .before .before .before .literal-bytes .result) (c .before .before .before .before .before .before .literal-words .result) (c .before .before .before .before .before .literal-words2 .result) (known (c .before .before .before .before .before)))
+inside-requires c κs = (columns-lower (known (c .before .before .before .before .before)), columns-within (known (c .before .before .before .before .before)))
 
 inside-requires-2 : tie.Need-inside-requires-2
-inside-requires-2 c κs = (columns-lower (c .before .before .before .before .before .before .before .before .before .before .before .before .before .before .before .before .before .before .before .before .args .terms .now) (c .before .before .before .before .before .before .before .before .before .before .before .before .before .before .before .before .before .before .before .before .args .literals .now) (c .before .before .before .before .before .before .before .before .before .before .before .before .before .before .before .before .before .term-words .result) (c .before .before .before .before .before .before .before .before .before .before .before .before .before .before .before .before .term-bytes .result) (c .before .before .before .before .before .before .before .before .before .before .before .before .before .before .before .rows .result) (c .before .before .before .before .before .before .before .before .before .before .before .before .before .before .literal-bytes .result) (c .before .before .before .before .before .before .before .before .before .before .before .before .literal-words .result) (c .before .before .before .before .before .before .before .before .before .before .before .literal-words2 .result) (known (c .before .before .before .before .before .before .before .before .before .before .before)), columns-within (c .before .before .before .before .before .before .before .before .before .before .before .before .before .before .before .before .before .before .before .before .args .terms .now) (c .before .before .before .before .before .before .before .before .before .before .before .before .before .before .before .before .before .before .before .before .args .literals .now) (c .before .before .before .before .before .before .before .before .before .before .before .before .before .before .before .before .before .term-words .result) (c .before .before .before .before .before .before .before .before .before .before .before .before .before .before .before .before .term-bytes .result) (c .before .before .before .before .before .before .before .before .before .before .before .before .before .before .before .rows .result) (c .before .before .before .before .before .before .before .before .before .before .before .before .before .before .literal-bytes .result) (c .before .before .before .before .before .before .before .before .before .before .before .before .literal-words .result) (c .before .before .before .before .before .before .before .before .before .before .before .literal-words2 .result) (known (c .before .before .before .before .before .before .before .before .before .before .before)))
+inside-requires-2 c κs = (columns-lower (known (c .before .before .before .before .before .before .before .before .before .before .before)), columns-within (known (c .before .before .before .before .before .before .before .before .before .before .before)))
 
 in-use-requires : tie.Need-in-use-requires
 in-use-requires c κs = known (c .before .before .before .before .before .before .before .before .before .before .before .before .before .before) .tables .terms-fit
@@ -59,26 +67,32 @@ occurring-requires-2 : tie.Need-occurring-requires-2
 occurring-requires-2 c κs = known (c .before .before .before .before .before .before .before .before .before .before .before .before .before .before .before .before .before .before .before .before) .tables .terms-fit
 
 colours-requires : tie.Need-colours-requires
-colours-requires c κs = (columns-lower (c .before .before .before .before .before .before .before .before .before .before .before .before .before .before .before .before .before .before .before .before .before .before .before .before .before .before .before .before .before .before .before .before .before .before .args .terms .now) (c .before .before .before .before .before .before .before .before .before .before .before .before .before .before .before .before .before .before .before .before .before .before .before .before .before .before .before .before .before .before .before .before .before .before .args .literals .now) (c .before .before .before .before .before .before .before .before .before .before .before .before .before .before .before .before .before .before .before .before .before .before .before .before .before .before .before .before .before .before .before .term-words .result) (c .before .before .before .before .before .before .before .before .before .before .before .before .before .before .before .before .before .before .before .before .before .before .before .before .before .before .before .before .before .before .term-bytes .result) (c .before .before .before .before .before .before .before .before .before .before .before .before .before .before .before .before .before .before .before .before .before .before .before .before .before .before .before .before .before .rows .result) (c .before .before .before .before .before .before .before .before .before .before .before .before .before .before .before .before .before .before .before .before .before .before .before .before .before .before .before .before .literal-bytes .result) (c .before .before .before .before .before .before .before .before .before .before .before .before .before .before .before .before .before .before .before .before .before .before .before .before .before .before .literal-words .result) (c .before .before .before .before .before .before .before .before .before .before .before .before .before .before .before .before .before .before .before .before .before .before .before .before .before .literal-words2 .result) (known (c .before .before .before .before .before .before .before .before .before .before .before .before .before .before .before .before .before .before .before .before .before .before .before .before .before)), known (c .before .before .before .before .before .before .before .before .before .before .before .before .before .before .before .before .before .before .before .before .before .before .before .before .before) .tables .terms-fit)
+colours-requires c κs = (columns-lower (known (c .before .before .before .before .before .before .before .before .before .before .before .before .before .before .before .before .before .before .before .before .before .before .before .before .before)), known (c .before .before .before .before .before .before .before .before .before .before .before .before .before .before .before .before .before .before .before .before .before .before .before .before .before) .tables .terms-fit)
 
 returns : tie.Need-returns
 unfolding soundTables
 returns c =
-    let used = columns-used (c .before .before .before .before .before .before .before .before .before .before .before .before .before .before .before .before .before .before .before .before .before .before .before .before .before .before .before .before .before .before .before .before .before .before .before .args .terms .now) (c .before .before .before .before .before .before .before .before .before .before .before .before .before .before .before .before .before .before .before .before .before .before .before .before .before .before .before .before .before .before .before .before .before .before .before .args .literals .now) (c .before .before .before .before .before .before .before .before .before .before .before .before .before .before .before .before .before .before .before .before .before .before .before .before .before .before .before .before .before .before .before .before .term-words .result) (c .before .before .before .before .before .before .before .before .before .before .before .before .before .before .before .before .before .before .before .before .before .before .before .before .before .before .before .before .before .before .before .term-bytes .result) (c .before .before .before .before .before .before .before .before .before .before .before .before .before .before .before .before .before .before .before .before .before .before .before .before .before .before .before .before .before .before .rows .result) (c .before .before .before .before .before .before .before .before .before .before .before .before .before .before .before .before .before .before .before .before .before .before .before .before .before .before .before .before .before .literal-bytes .result) (c .before .before .before .before .before .before .before .before .before .before .before .before .before .before .before .before .before .before .before .before .before .before .before .before .before .before .before .literal-words .result) (c .before .before .before .before .before .before .before .before .before .before .before .before .before .before .before .before .before .before .before .before .before .before .before .before .before .before .literal-words2 .result) (known (c .before .before .before .before .before .before .before .before .before .before .before .before .before .before .before .before .before .before .before .before .before .before .before .before .before .before)) (c .before .before .before .before .before .before .before .before .before .before .before .before .before .before .before .before .before .before .before .before .inside .result) (c .before .before .before .before .before .before .before .before .before .before .before .before .before .before .inside2 .result) (c .before .before .before .before .before .before .before .before .before .before .before .before .before .before .before .before .before .before .before .before .inside .ensures) (c .before .before .before .before .before .before .before .before .before .before .before .before .before .before .inside2 .ensures) (c .before .before .before .before .before .before .before .before .before .before .before .in-use .result) (c .before .before .before .before .before .before .before .before .before .before .before .in-use .ensures) in
-    let colours = columns-colours (c .before .before .before .before .before .before .before .before .before .before .before .before .before .before .before .before .before .before .before .before .before .before .before .before .before .before .before .before .before .before .before .before .before .before .before .args .terms .now) (c .before .before .before .before .before .before .before .before .before .before .before .before .before .before .before .before .before .before .before .before .before .before .before .before .before .before .before .before .before .before .before .before .before .before .before .args .literals .now) (c .before .before .before .before .before .before .before .before .before .before .before .before .before .before .before .before .before .before .before .before .before .before .before .before .before .before .before .before .before .before .before .before .term-words .result) (c .before .before .before .before .before .before .before .before .before .before .before .before .before .before .before .before .before .before .before .before .before .before .before .before .before .before .before .before .before .before .before .term-bytes .result) (c .before .before .before .before .before .before .before .before .before .before .before .before .before .before .before .before .before .before .before .before .before .before .before .before .before .before .before .before .before .before .rows .result) (c .before .before .before .before .before .before .before .before .before .before .before .before .before .before .before .before .before .before .before .before .before .before .before .before .before .before .before .before .before .literal-bytes .result) (c .before .before .before .before .before .before .before .before .before .before .before .before .before .before .before .before .before .before .before .before .before .before .before .before .before .before .before .literal-words .result) (c .before .before .before .before .before .before .before .before .before .before .before .before .before .before .before .before .before .before .before .before .before .before .before .before .before .before .literal-words2 .result) (known (c .before .before .before .before .before .before .before .before .before .before .before .before .before .before .before .before .before .before .before .before .before .before .before .before .before .before)) (c .before .before .before .before .before .before .before .before .before .before .before .before .before .before .before .before .before .before .before .before .inside .result) (c .before .before .before .before .before .before .before .before .before .before .before .before .before .before .inside2 .result) (c .before .before .before .before .before .before .before .before .before .before .before .before .before .before .before .before .before .before .before .before .inside .ensures) (c .before .before .before .before .before .before .before .before .before .before .before .before .before .before .inside2 .ensures) (c .before .before .before .before .before .before .before .before .occurring .result) (c .before .before .before .before .before .occurring2 .result) (c .colours .result) (c .before .before .before .before .before .before .before .before .occurring .ensures) (c .before .before .before .before .before .occurring2 .ensures) (c .colours .ensures) in
+    let k = known (c .before .before .before .before .before .before .before .before .before .before .before .before .before .before .before .before .before .before .before .before .before .before .before .before .before .before) in
+    let a = c .before .before .before .before .before .before .before .before .before .before .before .before .before .before .before .before .before .before .before .before .inside in
+    let b = c .before .before .before .before .before .before .before .before .before .before .before .before .before .before .inside2 in
+    let in-use = c .before .before .before .before .before .before .before .before .before .before .before .in-use in
+    let in-a = c .before .before .before .before .before .before .before .before .occurring in
+    let in-b = c .before .before .before .before .before .occurring2 in
+    let used = columns-used k (a .result) (b .result) (a .ensures) (b .ensures) (in-use .result) (in-use .ensures) in
+    let colours = columns-colours k (a .result) (b .result) (a .ensures) (b .ensures) (in-a .result) (in-b .result) (c .colours .result) (in-a .ensures) (in-b .ensures) (c .colours .ensures) in
     λ i.
     record {
       check = Sound;
-      terms = length (c .before .before .before .before .before .before .before .before .before .before .before .before .before .before .before .before .before .before .before .before .before .before .before .before .before .before .before .before .before .before .before .before .before .before .before .args .terms .now) / 16;
-      literals = length (c .before .before .before .before .before .before .before .before .before .before .before .before .before .before .before .before .before .before .before .before .before .before .before .before .before .before .before .before .before .before .before .before .before .before .before .args .literals .now) / 8;
-      symbols = c .before .before .before .before .before .before .before .before .before .before .before .before .before .before .before .before .before .before .before .before .before .before .before .before .before .before .before .before .before .before .before .before .term-words .ensures i;
-      arities = c .before .before .before .before .before .before .before .before .before .before .before .before .before .before .before .before .before .before .before .before .before .before .before .before .before .before .before .before .before .before .before .term-bytes .ensures i;
+      terms = termCount (k .bs);
+      literals = literalCount (k .ls);
+      symbols = k .symbols-read i;
+      arities = k .arities-read i;
       used = used i;
       colours = colours i;
-      sides = c .before .before .before .before .before .before .before .before .before .before .before .before .before .before .before .before .before .before .before .before .before .before .before .before .before .before .before .before .before .literal-bytes .ensures i;
+      sides = k .sides-read i;
       kinds = c .before .before .before .before .before .before .before .before .before .before .before .before .before .before .before .before .before .before .before .before .before .before .before .before .before .before .before .before .literal-bytes2 .ensures i;
-      lefts = c .before .before .before .before .before .before .before .before .before .before .before .before .before .before .before .before .before .before .before .before .before .before .before .before .before .before .before .literal-words .ensures i;
-      rights = c .before .before .before .before .before .before .before .before .before .before .before .before .before .before .before .before .before .before .before .before .before .before .before .before .before .before .literal-words2 .ensures i;
+      lefts = k .lefts-read i;
+      rights = k .rights-read i;
     }
 
 pub sound-spec : {M : Type 1} → statement M
