@@ -4,3 +4,4 @@ pub mod AddedTerms
 pub mod Critical
 pub mod Ways
 pub mod Partition
+pub mod Promises

@@ -22,6 +22,7 @@ use Rattle.closure.proofs.OwnRun.{own-run-never-stuck}
 use Rattle.clauses.specs.Reading.{literalAt, critical}
 use Rattle.engine.specs.declared.Answer.the-variants.{Consistent, Inconsistent}
 use Rattle.engine.specs.Buffers.{partitionBytes, termBytes, writtenOver, tooShort}
+use Rattle.engine.specs.Refusals.{Carried}
 use Rattle.engine.specs.Call.{Buffers, Returned, refused, consistent, inconsistent, recordsIn, verdict, ended, afterChecks, judged}
 
 -- a check is sound, or some row refuses
@@ -41,11 +42,6 @@ addedBytesOf st = flatMap (λ r. r) (map termBytes (st .added))
 abbrev pub clauseBytesOf : List Term → List Literal → State → ℕ → List ℕ
 clauseBytesOf ts ls st d = flatMap (λ r. r) (recordsIn ts ls st (literalAt ls d))
 
--- the run's last state, and that the tables pass the checks
-pub record Carried (terms literals : List ℕ) (st : State) : Type 0 where
-  pub checks : checked terms literals ≡ Sound
-  pub last : ownRun (termsOf terms) (literalsOf literals) ≡ some st
-
 -- how the call came to what it returns
 pub data Way (terms literals : List ℕ) (bs : Buffers) (r : Returned) : Type 0 where
   by-checks : (check : Check) → checked terms literals ≡ check → (check ≡ Sound → ⊥) → r ≡ refused bs (numberOf check) (placeIn check) → Way terms literals bs r
@@ -57,7 +53,7 @@ pub data Way (terms literals : List ℕ) (bs : Buffers) (r : Returned) : Type 0 
 
 module _ (terms literals : List ℕ) (bs : Buffers) where
   -- a refused table comes back as rows 1 to 6 say
-  judged-refused : (check : Check) → checked terms literals ≡ check → (check ≡ Sound → ⊥) → judged terms literals bs ≡ refused bs (numberOf check) (placeIn check)
+  pub judged-refused : (check : Check) → checked terms literals ≡ check → (check ≡ Sound → ⊥) → judged terms literals bs ≡ refused bs (numberOf check) (placeIn check)
   unfolding judged afterChecks
   judged-refused check e n = rw e (rw (refused-number check n) refl)
 
@@ -67,7 +63,7 @@ module _ (terms literals : List ℕ) (bs : Buffers) where
   judged-ended e = rw e refl
 
   -- and, since no run is stuck, to the verdict
-  judged-verdict : (st : State) → Carried terms literals st → judged terms literals bs ≡ verdict bs (termsOf terms) (literalsOf literals) st (critical (literalsOf literals) (st .graph))
+  pub judged-verdict : (st : State) → Carried terms literals st → judged terms literals bs ≡ verdict bs (termsOf terms) (literalsOf literals) st (critical (literalsOf literals) (st .graph))
   unfolding ended
   judged-verdict st c = judged-ended (c .checks) ∙ ap (ended bs (termsOf terms) (literalsOf literals)) (c .last)
 

@@ -2,3 +2,4 @@
 pub mod Answers
 pub mod Buffers
 pub mod Call
+pub mod Refusals
