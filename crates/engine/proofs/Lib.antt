@@ -2,6 +2,7 @@
 pub mod Bench
 pub mod AddedTerms
 pub mod Critical
-pub mod Ways
 pub mod Partition
+pub mod Ways
+pub mod AddedFit
 pub mod Promises

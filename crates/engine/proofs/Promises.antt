@@ -1,107 +1,203 @@
--- The promises: demands 1, 2 and 3 on what a call returns, as bytes. Each statement uses definitions of specs/ alone.
-use mathlib.Core.Bool.{Bool, true, false, cond, not}
-use mathlib.Core.List.{List, [], _∷_, _++_, map, flatMap, List·Memᴰ}
-use mathlib.Core.Logic.{_⊎_, inl, inr, ⊎-elim, _↔_}
-use mathlib.Core.Option.{Option, some, none, Option·some-injective}
-use mathlib.Core.Path.{_≡_, refl, sym, ap, ap₂, subst, _∙_}
-use Prim.Native.Nat.{ℕ, _+_, _*_, _≤_, _<_}
+-- The promises: demands 1, 2 and 3 of a call on any bytes. Each statement uses definitions of specs/ alone; docs/PROMISES.md goes through the demands
+-- sentence by sentence and names the statement for each.
+use mathlib.Core.Bool.{not}
+use mathlib.Core.List.{List, _++_, List·Memᴰ}
+use mathlib.Core.Logic.{_↔_}
+use mathlib.Core.Option.{some, none}
+use mathlib.Core.Path.{_≡_, refl, sym, ap, ap₂, subst, subst₂, _∙_}
+use Prim.Native.Nat.{ℕ, _*_, _≤_, _<_}
 use native.Mathlib.Omega.{arith}
-use lib.Dec.{T, ltb, lt→ltb, ltb→lt, nltb→le, not-T, lit<}
-use lib.ListN.{length, take, drop, length-map}
-use Rattle.tables.specs.Words.{First}
+use lib.Dec.{T}
+use lib.ListN.{length, take, drop, length-append}
+use lib.Seq.{take-at}
+use Rattle.tables.specs.Words.{First, keep, below}
 use Rattle.tables.specs.Terms.{Term, LowerArguments}
-use Rattle.tables.specs.TermTable.{termCount, termsOf}
+use Rattle.tables.specs.TermTable.{termsOf}
 use Rattle.tables.specs.LiteralTable.{Literal, different, literalsOf}
 use Rattle.tables.specs.Colours.{inUse}
-use Rattle.tables.specs.Checks.{checked, numberOf, placeIn}
-use Rattle.tables.specs.declared.Check.{Check}
+use Rattle.tables.specs.Checks.{checked}
 use Rattle.tables.specs.declared.Check.the-variants.{Sound}
 use Rattle.tables.specs.Interpretations.{Satisfiable, FinitelySatisfiable, Entailed, FinitelyEntailed}
-use Rattle.tables.proofs.Words.{by-test, passes, fails, passed, failed}
-use Rattle.tables.proofs.Sound.{SoundTables, sound, length-termsOf, lower-arguments, sides-within}
 use Rattle.tables.proofs.Colours.{SidesWithin, inUse-within}
+use Rattle.tables.proofs.Words.{and-left, and-right, and-both}
+use Rattle.tables.proofs.Sound.{SoundTables, sound, length-termsOf, lower-arguments, sides-within}
+use Rattle.tables.proofs.WordBytes.{AllBytes}
 use Rattle.closure.specs.Graph.{joined}
 use Rattle.closure.specs.Steps.{State, tableOf, Run, NoStepLeft}
-use Rattle.closure.specs.OwnRun.{ownRun}
+use Rattle.closure.proofs.States.{SoundState}
+use Rattle.closure.proofs.Runs.{run-sound}
 use Rattle.closure.proofs.OwnRun.{own-run}
-use Rattle.closure.proofs.FewSteps.{own-run-complete}
-use Rattle.closure.proofs.Classes.{Apart}
+use Rattle.closure.proofs.FewSteps.{fewer-steps, few-added, own-run-complete}
 use Rattle.closure.proofs.AllRuns as runs
-use Rattle.clauses.specs.Reading.{literalAt, critical}
+use Rattle.clauses.specs.Clauses.{Clause}
+use Rattle.clauses.specs.Reading.{literalAt, critical, summary}
+use Rattle.clauses.specs.Records.{standing}
+use Rattle.clauses.specs.ReadBack.{clausesRead}
+use Rattle.clauses.specs.Truth.{Summarises}
+use Rattle.clauses.proofs.Interpolation.{summary-shared, summary-A, summary-B}
+use Rattle.clauses.proofs.Order.{OneEach, standing-true, shared-standing}
+use Rattle.clauses.proofs.OneClause.{summary-one-each, written-summarises}
 use Rattle.engine.specs.declared.Answer.{Answer}
 use Rattle.engine.specs.declared.Answer.the-variants.{Consistent, Inconsistent, Refused}
-use Rattle.engine.specs.Buffers.{classNumber, partitionBytes, termBytes, writtenOver, tooShort}
-use Rattle.engine.specs.Call.{Buffers, Returned, refused, recordsIn, judged}
-use Rattle.engine.specs.Refusals.{Carried, Refusal, by-row, partition-short, added-short, clauses-short}
-use Rattle.engine.proofs.AddedTerms.{addedBytes-length}
+use Rattle.engine.specs.Buffers.{classNumber, writtenOver}
+use Rattle.engine.specs.Call.{Buffers, Returned, recordsIn, judged}
+use Rattle.engine.specs.Refusals.{Carried, Refusal}
+use Rattle.engine.proofs.AddedTerms.{addedBytes, addedBytes-length, table-read}
+use Rattle.engine.proofs.AddedFit.{added-fits}
 use Rattle.engine.proofs.Critical.{critical-found, critical-none}
-use Rattle.engine.proofs.Partition.{classAt, inClass, class-lowest, class-idle, class-joined, partition-length, partition-read}
-use Rattle.engine.proofs.Ways.{Way, by-checks, short-partition, consistent-way, short-added, short-clauses, inconsistent-way, way, judged-refused, judged-verdict, addedBytesOf, clauseBytesOf}
+use Rattle.engine.proofs.Partition.{classAt, inClass, class-lowest, class-idle, class-joined, partition-read}
+use Rattle.engine.proofs.Ways.{came-refused, came-consistent, came-inconsistent, refusal-given, CameConsistent, CameInconsistent, clauseBytesOf}
 
--- two answers of different kinds are not equal
-refused-consistent : {n p : ℕ} → Refused n p ≡ Consistent → ⊥
-refused-consistent e = let z : _≡_ {A = ℕ} 0 1 = cc in omega arith
+-- the class number of term t in a partition buffer is the lowest number of a given term in use of its class
+pub record LowestInClass (ts : List Term) (ls : List Literal) (buffer : List ℕ) (t : ℕ) : Type 0 where
+  pub in-use : T (inUse ts ls (classAt buffer t))
+  pub in-class : classAt buffer (classAt buffer t) ≡ classAt buffer t
+  pub none-lower : (u : ℕ) → u < classAt buffer t → T (inUse ts ls u) → classAt buffer u ≡ classAt buffer t → ⊥
 
-refused-inconsistent : {n p d a k : ℕ} → Refused n p ≡ Inconsistent d a k → ⊥
-refused-inconsistent e = let z : _≡_ {A = ℕ} 0 1 = cc in omega arith
+-- ---- what holds of tables that pass rows 1 to 6, for every run
 
-consistent-inconsistent : {d a k : ℕ} → Consistent ≡ Inconsistent d a k → ⊥
-consistent-inconsistent e = let z : _≡_ {A = ℕ} 0 1 = cc in omega arith
-
--- what the run of sound tables comes to
-module _ (terms literals : List ℕ) (st : State) (carried : Carried terms literals st) where
+module _ (terms literals : List ℕ) (good : checked terms literals ≡ Sound) where
   lower : LowerArguments (termsOf terms)
-  lower = lower-arguments terms literals (sound terms literals (carried .checks))
+  lower = lower-arguments terms literals (sound terms literals good)
 
   within : SidesWithin (termsOf terms) (literalsOf literals)
-  within = sides-within terms literals (sound terms literals (carried .checks))
+  within = sides-within terms literals (sound terms literals good)
 
   few : length (termsOf terms) ≤ 256
-  few = subst (λ (n : ℕ). n ≤ 256) (sym (length-termsOf terms)) (sound terms literals (carried .checks) .terms-fit)
+  few = subst (λ (n : ℕ). n ≤ 256) (sym (length-termsOf terms)) (sound terms literals good .terms-fit)
 
-  -- the library's own run is one of the runs that 01 allows
-  pub own : (k : ℕ) × Run (termsOf terms) (literalsOf literals) k st
-  own = own-run (termsOf terms) (literalsOf literals) lower within st (carried .last)
+  -- demand 3, "every run ends": with any term in use it has fewer steps than there are such terms
+  pub run-ends : {k : ℕ} {st : State} → Run (termsOf terms) (literalsOf literals) k st → 0 < length (keep (inUse (termsOf terms) (literalsOf literals)) (below (length (termsOf terms)))) → k < length (keep (inUse (termsOf terms) (literalsOf literals)) (below (length (termsOf terms))))
+  run-ends run some-used = fewer-steps (termsOf terms) (literalsOf literals) lower within some-used run
+
+  -- demand 3, "all that are carried to their end have the same classes for the terms in use"
+  pub runs-agree : {k j : ℕ} {st other : State} → Run (termsOf terms) (literalsOf literals) k st → NoStepLeft (termsOf terms) (literalsOf literals) st → Run (termsOf terms) (literalsOf literals) j other → NoStepLeft (termsOf terms) (literalsOf literals) other → (u v : ℕ) → T (inUse (termsOf terms) (literalsOf literals) u) → T (inUse (termsOf terms) (literalsOf literals) v) → T (joined (st .graph) u v) → T (joined (other .graph) u v)
+  runs-agree = runs.runs-agree (termsOf terms) (literalsOf literals) lower within
+
+  -- demand 3, "whenever a disequality has its sides joined, the clauses read off the graph use only shared symbols, hold in every interpretation that
+  -- satisfies A, and are never all true in one that satisfies B": in every graph that a run reaches
+  pub run-summarises : {k : ℕ} {st : State} → Run (termsOf terms) (literalsOf literals) k st → (l : Literal) → List·Memᴰ l (literalsOf literals) → l .kind ≡ different → T (joined (st .graph) (l .left) (l .right)) → Summarises (termsOf terms) (literalsOf literals) (tableOf (termsOf terms) st) (standing (length (tableOf (termsOf terms) st)) (summary (termsOf terms) (literalsOf literals) (tableOf (termsOf terms) st) (st .graph) l))
+  run-summarises {st = st} run l stands differ meet =
+      let s = run-sound (termsOf terms) (literalsOf literals) lower within run in
+      let n = length (tableOf (termsOf terms) st) in
+      let table = tableOf (termsOf terms) st in
+      let cs = summary (termsOf terms) (literalsOf literals) table (st .graph) l in
+      let one : OneEach n cs = summary-one-each (termsOf terms) (st .added) (literalsOf literals) (s .lower) within (st .graph) (s .edges) l stands differ meet in
+      record {
+        shared = shared-standing n cs (termsOf terms) (literalsOf literals) table (summary-shared (termsOf terms) (st .added) (literalsOf literals) (s .lower) within (st .graph) (s .edges) l stands differ meet);
+        follows-from-A = λ I a. standing-true n cs one I table .0 (summary-A (termsOf terms) (st .added) (literalsOf literals) (s .lower) within (st .graph) (s .edges) l stands differ meet I a);
+        contradicts-B = λ I b all. summary-B (termsOf terms) (st .added) (literalsOf literals) (s .lower) within (st .graph) (s .edges) l stands differ meet I b (standing-true n cs one I table .1 all);
+      }
+
+  -- the library's run is one of these runs
+  pub own-run-allowed : (st : State) → Carried terms literals st → (k : ℕ) × Run (termsOf terms) (literalsOf literals) k st
+  own-run-allowed st c = own-run (termsOf terms) (literalsOf literals) lower within st (c .last)
 
   -- carried to its end
-  pub own-done : NoStepLeft (termsOf terms) (literalsOf literals) st
-  own-done = own-run-complete (termsOf terms) (literalsOf literals) lower within st (carried .last)
+  pub own-run-ended : (st : State) → Carried terms literals st → NoStepLeft (termsOf terms) (literalsOf literals) st
+  own-run-ended st c = own-run-complete (termsOf terms) (literalsOf literals) lower within st (c .last)
 
   -- no critical disequality: some finite interpretation satisfies A and B
-  apart-finite : critical (literalsOf literals) (st .graph) ≡ none → FinitelySatisfiable (termsOf terms) (literalsOf literals)
-  apart-finite e = runs.apart-finitely (termsOf terms) (literalsOf literals) lower within (own .1) own-done .0 (critical-none (literalsOf literals) (st .graph) e)
+  apart-finite : (st : State) → Carried terms literals st → critical (literalsOf literals) (st .graph) ≡ none → FinitelySatisfiable (termsOf terms) (literalsOf literals)
+  apart-finite st c e = runs.apart-finitely (termsOf terms) (literalsOf literals) lower within (own-run-allowed st c .1) (own-run-ended st c) .0 (critical-none (literalsOf literals) (st .graph) e)
 
   -- a critical disequality: none does
-  critical-never : (d : ℕ) → critical (literalsOf literals) (st .graph) ≡ some d → Satisfiable (termsOf terms) (literalsOf literals) → ⊥
-  critical-never d e s =
-      let c = critical-found (literalsOf literals) (st .graph) d e in
-      runs.apart-exact (termsOf terms) (literalsOf literals) lower within (own .1) own-done .1 s (literalAt (literalsOf literals) d) (c .stands) (c .differs) (c .meets)
+  critical-never : (st : State) → Carried terms literals st → (d : ℕ) → critical (literalsOf literals) (st .graph) ≡ some d → Satisfiable (termsOf terms) (literalsOf literals) → ⊥
+  critical-never st c d e s =
+      let x = critical-found (literalsOf literals) (st .graph) d e in
+      runs.apart-exact (termsOf terms) (literalsOf literals) lower within (own-run-allowed st c .1) (own-run-ended st c) .1 s (literalAt (literalsOf literals) d) (x .stands) (x .differs) (x .meets)
+
+-- ---- a call on any bytes
 
 module _ (terms literals : List ℕ) (bs : Buffers) where
-  -- ---- Demand 1
+  -- demand 1: a refusal has 01's number and place, and comes only where 01 says
+  pub refusal-exactly : (n p : ℕ) → (judged terms literals bs .answer ≡ Refused n p) ↔ Refusal terms literals bs n p
+  refusal-exactly n p = (λ e. came-refused terms literals bs n p e .0, λ r. refusal-given terms literals bs n p r)
 
-  -- "A refusal .. changes no output byte."
+  -- demand 1: "and changes no output byte"
   pub refused-changes-nothing : (n p : ℕ) → judged terms literals bs .answer ≡ Refused n p → judged terms literals bs .buffers ≡ bs
-  refused-changes-nothing n p e = go (way terms literals bs)
-    where
-      go : Way terms literals bs (judged terms literals bs) → judged terms literals bs .buffers ≡ bs
-      go (by-checks check q x r) = ap (λ (z : Returned). z .buffers) r
-      go (short-partition st c q x r) = ap (λ (z : Returned). z .buffers) r
-      go (consistent-way st c q x r) = absurd (refused-consistent (sym e ∙ ap (λ (z : Returned). z .answer) r))
-      go (short-added st d c q x r) = ap (λ (z : Returned). z .buffers) r
-      go (short-clauses st d c q x y r) = ap (λ (z : Returned). z .buffers) r
-      go (inconsistent-way st d c q x y r) = absurd (refused-inconsistent (sym e ∙ ap (λ (z : Returned). z .answer) r))
+  refused-changes-nothing n p e = came-refused terms literals bs n p e .1
 
-  -- ---- Demand 2
-
-  -- "it answers consistent exactly when some interpretation over a finite, non-empty domain satisfies A and B": consistent is right
+  -- demand 2: consistent is right, over a finite, non-empty domain
   pub consistent-satisfiable : judged terms literals bs .answer ≡ Consistent → FinitelySatisfiable (termsOf terms) (literalsOf literals)
-  consistent-satisfiable e = go (way terms literals bs)
+  consistent-satisfiable e = let c = came-consistent terms literals bs e in apart-finite terms literals (c .carried .checks) (c .state) (c .carried) (c .apart)
+
+  -- demand 2: inconsistent is right, over any non-empty domain
+  pub inconsistent-unsatisfiable : (d a k : ℕ) → judged terms literals bs .answer ≡ Inconsistent d a k → Satisfiable (termsOf terms) (literalsOf literals) → ⊥
+  inconsistent-unsatisfiable d a k e = let c = came-inconsistent terms literals bs d a k e in critical-never terms literals (c .carried .checks) (c .state) (c .carried) d (c .found)
+
+  -- demand 2: "Otherwise it answers consistent exactly when some interpretation over a finite, non-empty domain satisfies A and B"
+  pub consistent-exactly : ((n p : ℕ) → judged terms literals bs .answer ≡ Refused n p → ⊥) → (judged terms literals bs .answer ≡ Consistent) ↔ FinitelySatisfiable (termsOf terms) (literalsOf literals)
+  consistent-exactly not-refused = (consistent-satisfiable, λ s. go (judged terms literals bs .answer) refl s)
     where
-      go : Way terms literals bs (judged terms literals bs) → FinitelySatisfiable (termsOf terms) (literalsOf literals)
-      go (by-checks check q x r) = absurd (refused-consistent (sym (ap (λ (z : Returned). z .answer) r) ∙ e))
-      go (short-partition st c q x r) = absurd (refused-consistent (sym (ap (λ (z : Returned). z .answer) r) ∙ e))
-      go (consistent-way st c q x r) = apart-finite terms literals st c q
-      go (short-added st d c q x r) = absurd (refused-consistent (sym (ap (λ (z : Returned). z .answer) r) ∙ e))
-      go (short-clauses st d c q x y r) = absurd (refused-consistent (sym (ap (λ (z : Returned). z .answer) r) ∙ e))
-      go (inconsistent-way st d c q x y r) = absurd (consistent-inconsistent (sym e ∙ ap (λ (z : Returned). z .answer) r))
+      go : (x : Answer) → judged terms literals bs .answer ≡ x → FinitelySatisfiable (termsOf terms) (literalsOf literals) → judged terms literals bs .answer ≡ Consistent
+      go Consistent e s = e
+      go (Inconsistent d a k) e s = absurd (inconsistent-unsatisfiable d a k e (s .0, s .2, s .3))
+      go (Refused n p) e s = absurd (not-refused n p e)
+
+  -- what the partition holds where the answer is consistent
+  module _ (consistent : judged terms literals bs .answer ≡ Consistent) where
+    came : CameConsistent terms literals bs (judged terms literals bs)
+    came = came-consistent terms literals bs consistent
+
+    -- the class number that the call writes for a given term
+    class : (t : ℕ) → t < length (termsOf terms) → classAt (judged terms literals bs .buffers .partition) t ≡ classNumber (termsOf terms) (literalsOf literals) (came .state .graph) t
+    class t h = ap (λ (buffer : List ℕ). classAt buffer t) (came .partition) ∙ partition-read (termsOf terms) (literalsOf literals) (came .state .graph) (bs .partition) t (few terms literals (came .carried .checks)) h
+
+    used-in : (t : ℕ) → T (inUse (termsOf terms) (literalsOf literals) t) → t < length (termsOf terms)
+    used-in t h = inUse-within (termsOf terms) (literalsOf literals) (lower terms literals (came .carried .checks)) (within terms literals (came .carried .checks)) t h
+
+    -- two terms in use have one class number exactly when the run has joined them
+    class-means : (u v : ℕ) → T (inUse (termsOf terms) (literalsOf literals) u) → T (inUse (termsOf terms) (literalsOf literals) v) → (classAt (judged terms literals bs .buffers .partition) u ≡ classAt (judged terms literals bs .buffers .partition) v) ↔ T (joined (came .state .graph) u v)
+    class-means u v hu hv =
+        let x = class-joined (termsOf terms) (literalsOf literals) (came .state .graph) u v (used-in u hu) (used-in v hv) hu hv in
+        (λ e. x .0 (sym (class u (used-in u hu)) ∙ e ∙ class v (used-in v hv)), λ j. class u (used-in u hu) ∙ x .1 j ∙ sym (class v (used-in v hv)))
+
+    -- demand 2: "two terms in use share a class exactly when every interpretation that satisfies the equalities gives them one value"
+    pub classes-exactly : (u v : ℕ) → T (inUse (termsOf terms) (literalsOf literals) u) → T (inUse (termsOf terms) (literalsOf literals) v) → (classAt (judged terms literals bs .buffers .partition) u ≡ classAt (judged terms literals bs .buffers .partition) v) ↔ Entailed (termsOf terms) (literalsOf literals) u v
+    classes-exactly u v hu hv =
+        let good = came .carried .checks in
+        let x = runs.joined-entailed (termsOf terms) (literalsOf literals) (lower terms literals good) (within terms literals good) (own-run-allowed terms literals good (came .state) (came .carried) .1) (own-run-ended terms literals good (came .state) (came .carried)) u v hu hv in
+        (λ e. x .0 (class-means u v hu hv .0 e), λ z. class-means u v hu hv .1 (x .1 z))
+
+    -- demand 2: the same over finite domains alone
+    pub classes-finitely : (u v : ℕ) → T (inUse (termsOf terms) (literalsOf literals) u) → T (inUse (termsOf terms) (literalsOf literals) v) → (classAt (judged terms literals bs .buffers .partition) u ≡ classAt (judged terms literals bs .buffers .partition) v) ↔ FinitelyEntailed (termsOf terms) (literalsOf literals) u v
+    classes-finitely u v hu hv =
+        let good = came .carried .checks in
+        let x = runs.joined-finitely (termsOf terms) (literalsOf literals) (lower terms literals good) (within terms literals good) (own-run-allowed terms literals good (came .state) (came .carried) .1) (own-run-ended terms literals good (came .state) (came .carried)) u v hu hv in
+        (λ e. x .0 (class-means u v hu hv .0 e), λ z. class-means u v hu hv .1 (x .1 z))
+
+    -- "the lowest number of a given term in its class": it is a given term in use of that class, and no lower one is
+    pub class-is-lowest : (t : ℕ) → T (inUse (termsOf terms) (literalsOf literals) t) → LowestInClass (termsOf terms) (literalsOf literals) (judged terms literals bs .buffers .partition) t
+    class-is-lowest t h =
+        let c = classAt (judged terms literals bs .buffers .partition) t in
+        let first = subst (First (inClass (termsOf terms) (literalsOf literals) (came .state .graph) t) (length (termsOf terms))) (sym (class t (used-in t h))) (class-lowest (termsOf terms) (literalsOf literals) (came .state .graph) t (used-in t h) h) in
+        let used = and-left (inUse (termsOf terms) (literalsOf literals) c) (joined (came .state .graph) c t) (first .passes) in
+        record {
+          in-use = used;
+          in-class = class-means c t used h .1 (and-right (inUse (termsOf terms) (literalsOf literals) c) (joined (came .state .graph) c t) (first .passes));
+          none-lower = λ u w hu e. first .none-before u w (and-both (inUse (termsOf terms) (literalsOf literals) u) (joined (came .state .graph) u t) hu (class-means u t hu h .0 e));
+        }
+
+    -- "a term not in use gets 65535"
+    pub idle-class : (t : ℕ) → t < length (termsOf terms) → T (not (inUse (termsOf terms) (literalsOf literals) t)) → classAt (judged terms literals bs .buffers .partition) t ≡ 65535
+    idle-class t w h = class t w ∙ class-idle (termsOf terms) (literalsOf literals) (came .state .graph) t h
+
+  -- demand 3 on the bytes that come back: the clauses read from the clause buffer, over the given terms and those read from the added buffer, are a
+  -- summary; the tables are bytes
+  pub returned-summarises : AllBytes terms → (d a k : ℕ) → judged terms literals bs .answer ≡ Inconsistent d a k → Summarises (termsOf terms) (literalsOf literals) (termsOf (terms ++ take (16 * a) (judged terms literals bs .buffers .added))) (clausesRead k (judged terms literals bs .buffers .clauses))
+  unfolding writtenOver recordsIn
+  returned-summarises bytes d a k e =
+      let c = came-inconsistent terms literals bs d a k e in
+      let good = c .carried .checks in
+      let st = c .state in
+      let run = own-run-allowed terms literals good st (c .carried) .1 in
+      let s = run-sound (termsOf terms) (literalsOf literals) (lower terms literals good) (within terms literals good) run in
+      let x = critical-found (literalsOf literals) (st .graph) d (c .found) in
+      let many : length (tableOf (termsOf terms) st) ≤ 511 = omega (arith, length-append (termsOf terms) (st .added), few terms literals good, few-added (termsOf terms) (literalsOf literals) (lower terms literals good) (within terms literals good) (few terms literals good) run) in
+      let rest = drop (length (clauseBytesOf (termsOf terms) (literalsOf literals) st d)) (bs .clauses) in
+      let written = written-summarises (termsOf terms) (st .added) (literalsOf literals) (s .lower) (within terms literals good) (st .graph) (s .edges) (literalAt (literalsOf literals) d) (x .stands) (x .differs) (x .meets) many rest in
+      let taken : take (16 * a) (judged terms literals bs .buffers .added) ≡ addedBytes (st .added) = ap (λ (l : List ℕ). take (16 * a) l) (c .added) ∙ take-at (addedBytes (st .added)) (drop (length (addedBytes (st .added))) (bs .added)) (16 * a) (addedBytes-length (st .added) ∙ ap (λ (n : ℕ). 16 * n) (sym (c .added-count))) in
+      let table : termsOf (terms ++ take (16 * a) (judged terms literals bs .buffers .added)) ≡ tableOf (termsOf terms) st = ap (λ (l : List ℕ). termsOf (terms ++ l)) taken ∙ table-read terms (st .added) (sound terms literals good .terms-whole) (λ m stands. added-fits terms literals (sound terms literals good) bytes run m stands) in
+      let clauses : clausesRead k (judged terms literals bs .buffers .clauses) ≡ clausesRead (length (recordsIn (termsOf terms) (literalsOf literals) st (literalAt (literalsOf literals) d))) (clauseBytesOf (termsOf terms) (literalsOf literals) st d ++ rest) = ap₂ clausesRead (c .record-count) (c .clauses) in
+      subst₂ (λ (t : List Term) (cs : List Clause). Summarises (termsOf terms) (literalsOf literals) t cs) (sym table) (sym clauses) written
