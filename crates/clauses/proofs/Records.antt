@@ -11,7 +11,8 @@ use Rattle.tables.specs.Terms.{Term}
 use Rattle.tables.specs.LiteralTable.{Literal}
 use Rattle.tables.specs.Interpretations.{Interpretation}
 use Rattle.tables.proofs.Words.{flatMap-mem}
-use Rattle.tables.proofs.WordBytes.{word-value, AllBytes, bytes-none, bytes-cons, bytes-append, bytes-flatMap, wordBytes-bytes, records-read, records-length}
+use Rattle.tables.specs.Bytes.{AllBytes}
+use Rattle.tables.proofs.WordBytes.{word-value, bytes-none, bytes-cons, bytes-append, bytes-flatMap, wordBytes-bytes, records-read, records-length}
 use Rattle.clauses.specs.Clauses.{Clause, Conclusion, equals, differs, falsum}
 use Rattle.clauses.specs.Records.{standing, clauseRecord, conclusionRecord, recordsOf, clauseRecords}
 use Rattle.clauses.specs.ReadBack.{pairRead, conclusionRead, clausesAfter, clausesOf, clausesRead}

@@ -11,7 +11,7 @@ use Rattle.tables.specs.TermTable.{termCount, termRecord, symbolField, arityFie
 use Rattle.tables.specs.LiteralTable.{Literal, literalsOf}
 use Rattle.tables.specs.Colours.{inUse}
 use Rattle.tables.proofs.Words.{by-test, passes, fails, getD-mem, mem-getD}
-use Rattle.tables.proofs.WordBytes.{AllBytes}
+use Rattle.tables.specs.Bytes.{AllBytes}
 use Rattle.tables.proofs.Terms.{termAt-append}
 use Rattle.tables.proofs.Colours.{inUse-within}
 use Rattle.tables.proofs.Sound.{SoundTables, length-termsOf, termAt-termsOf, arity-small, lower-arguments, sides-within}

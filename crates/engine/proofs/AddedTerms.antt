@@ -12,7 +12,8 @@ use Rattle.tables.specs.Terms.{Term, noTerm, termAt}
 use Rattle.tables.specs.TermTable.{termRecord, symbolField, arityField, argumentField, rowOf, arityWrong, spareWrong, notLower, unusedNotZero, breaksLayout, termCount, termOf, termsOf}
 use Rattle.tables.proofs.Words.{and-left, and-right, failed, getD-mem, below-mem, someBelow-some}
 use Rattle.tables.proofs.Terms.{map-agree}
-use Rattle.tables.proofs.WordBytes.{word-value, AllBytes, bytes-none, bytes-cons, bytes-append, bytes-flatMap, wordBytes-bytes, record-read, records-read, records-length, record-behind, records-behind}
+use Rattle.tables.specs.Bytes.{AllBytes}
+use Rattle.tables.proofs.WordBytes.{word-value, bytes-none, bytes-cons, bytes-append, bytes-flatMap, wordBytes-bytes, record-read, records-read, records-length, record-behind, records-behind}
 use Rattle.engine.specs.Buffers.{termBytes}
 
 -- a term whose record has room for it: at most four arguments, and numbers that fit two bytes

@@ -19,7 +19,7 @@ use Rattle.tables.proofs.Words.{and-left, and-right, and-both, by-test, passes,
 use Rattle.tables.proofs.WordBytes.{word-read, record-read, records-length}
 use Rattle.closure.specs.Graph.{Graph, joined}
 use Rattle.closure.proofs.Joined.{joined-self, joined-sym, joined-trans}
-use Rattle.engine.specs.Buffers.{classNumber, partitionBytes, writtenOver}
+use Rattle.engine.specs.Buffers.{classNumber, partitionBytes, writtenOver, classAt}
 
 -- one list after the other is the same said of the list of them
 flatMap-of-map {ℓ κ} : {X : Type ℓ} {Y : Type κ} (f : X → List Y) (xs : List X) → flatMap f xs ≡ flatMap (λ r. r) (map f xs)
@@ -36,10 +36,6 @@ at-below (suc n) t d h = go (below-or-is t n h) (λ w. at-below n t d w)
     go : (t < n) ⊎ (t ≡ n) → (t < n → getD (below n) t d ≡ t) → getD (below n ++ (n ∷ [])) t d ≡ t
     go (inl w) f = List·getD-append (below n) (n ∷ []) d t (subst (λ (k : ℕ). t < k) (sym (length-below n)) w) ∙ f w
     go (inr e) f = getD-at (below n) n [] d t (length-below n ∙ sym e) ∙ sym e
-
--- the class number that a partition buffer holds for term t
-abbrev pub classAt : List ℕ → ℕ → ℕ
-classAt buffer t = wordAt (recordAt 2 buffer t) 0
 
 module _ (ts : List Term) (ls : List Literal) (G : Graph) where
   -- a term of the class of t: in use, and joined to t

@@ -11,6 +11,7 @@ use lib.Dec.{T}
 use lib.ListN.{length, take, drop, length-append}
 use lib.Seq.{take-at}
 use Rattle.tables.specs.Words.{First, keep, below}
+use Rattle.tables.specs.Bytes.{AllBytes}
 use Rattle.tables.specs.Terms.{Term, LowerArguments}
 use Rattle.tables.specs.TermTable.{termsOf}
 use Rattle.tables.specs.LiteralTable.{Literal, different, literalsOf}
@@ -21,7 +22,6 @@ use Rattle.tables.specs.Interpretations.{Satisfiable, FinitelySatisfiable, Enta
 use Rattle.tables.proofs.Colours.{SidesWithin, inUse-within}
 use Rattle.tables.proofs.Words.{and-left, and-right, and-both}
 use Rattle.tables.proofs.Sound.{SoundTables, sound, length-termsOf, lower-arguments, sides-within}
-use Rattle.tables.proofs.WordBytes.{AllBytes}
 use Rattle.closure.specs.Graph.{joined}
 use Rattle.closure.specs.Steps.{State, tableOf, Run, NoStepLeft}
 use Rattle.closure.proofs.States.{SoundState}
@@ -39,20 +39,14 @@ use Rattle.clauses.proofs.Order.{OneEach, standing-true, shared-standing}
 use Rattle.clauses.proofs.OneClause.{summary-one-each, written-summarises}
 use Rattle.engine.specs.declared.Answer.{Answer}
 use Rattle.engine.specs.declared.Answer.the-variants.{Consistent, Inconsistent, Refused}
-use Rattle.engine.specs.Buffers.{classNumber, writtenOver}
+use Rattle.engine.specs.Buffers.{classNumber, writtenOver, classAt, LowestInClass}
 use Rattle.engine.specs.Call.{Buffers, Returned, recordsIn, judged}
 use Rattle.engine.specs.Refusals.{Carried, Refusal}
 use Rattle.engine.proofs.AddedTerms.{addedBytes, addedBytes-length, table-read}
 use Rattle.engine.proofs.AddedFit.{added-fits}
 use Rattle.engine.proofs.Critical.{critical-found, critical-none}
-use Rattle.engine.proofs.Partition.{classAt, inClass, class-lowest, class-idle, class-joined, partition-read}
+use Rattle.engine.proofs.Partition.{inClass, class-lowest, class-idle, class-joined, partition-read}
 use Rattle.engine.proofs.Ways.{came-refused, came-consistent, came-inconsistent, refusal-given, CameConsistent, CameInconsistent, clauseBytesOf}
-
--- the class number of term t in a partition buffer is the lowest number of a given term in use of its class
-pub record LowestInClass (ts : List Term) (ls : List Literal) (buffer : List ℕ) (t : ℕ) : Type 0 where
-  pub in-use : T (inUse ts ls (classAt buffer t))
-  pub in-class : classAt buffer (classAt buffer t) ≡ classAt buffer t
-  pub none-lower : (u : ℕ) → u < classAt buffer t → T (inUse ts ls u) → classAt buffer u ≡ classAt buffer t → ⊥
 
 -- ---- what holds of tables that pass rows 1 to 6, for every run
 

@@ -2,11 +2,12 @@
 use mathlib.Core.Bool.{Bool, cond, _&&_}
 use mathlib.Core.List.{List, [], _∷_, _++_, map, flatMap}
 use mathlib.Core.Option.{Option, Option·getD}
-use Prim.Native.Nat.{ℕ}
-use lib.Dec.{ltb}
+use mathlib.Core.Path.{_≡_}
+use Prim.Native.Nat.{ℕ, _<_}
+use lib.Dec.{T, ltb}
 use lib.ListN.{length, take, drop}
 use Rattle.tables.specs.Words.{below, firstBelow}
-use Rattle.tables.specs.Bytes.{wordBytes}
+use Rattle.tables.specs.Bytes.{wordAt, recordAt, wordBytes}
 use Rattle.tables.specs.Terms.{Term}
 use Rattle.tables.specs.LiteralTable.{Literal}
 use Rattle.tables.specs.Colours.{inUse}
@@ -39,3 +40,13 @@ writtenOver bytes buffer = bytes ++ drop (length bytes) buffer
 -- row 7: "an output buffer is too short for this answer"
 unfoldable pub tooShort : List ℕ → List ℕ → Bool
 tooShort bytes buffer = ltb (length buffer) (length bytes)
+
+-- what a reader of the partition buffer takes for the class number of term t
+abbrev pub classAt : List ℕ → ℕ → ℕ
+classAt buffer t = wordAt (recordAt 2 buffer t) 0
+
+-- the class number of term t in a partition buffer is the lowest number of a given term in use of its class
+pub record LowestInClass (ts : List Term) (ls : List Literal) (buffer : List ℕ) (t : ℕ) : Type 0 where
+  pub in-use : T (inUse ts ls (classAt buffer t))
+  pub in-class : classAt buffer (classAt buffer t) ≡ classAt buffer t
+  pub none-lower : (u : ℕ) → u < classAt buffer t → T (inUse ts ls u) → classAt buffer u ≡ classAt buffer t → ⊥

@@ -8,7 +8,7 @@ use native.Mathlib.Omega.{arith}
 use lib.ListN.{length, getD, take, drop, length-append, length-drop}
 use lib.Seq.{take-at, take-append-le, drop-append-le, drop-append-add}
 use Rattle.tables.specs.Words.{below}
-use Rattle.tables.specs.Bytes.{wordAt, recordAt, wordBytes}
+use Rattle.tables.specs.Bytes.{AllBytes, wordAt, recordAt, wordBytes}
 use Rattle.tables.proofs.Words.{flatMap-mem, below-mem}
 use Rattle.tables.proofs.Terms.{map-agree}
 
@@ -19,10 +19,6 @@ word-value n h = omega arith
 -- the two bytes of a number below 65536, whatever follows them, are read as the number
 pub word-read : (n : ℕ) (rest : List ℕ) → n < 65536 → wordAt (wordBytes n ++ rest) 0 ≡ n
 word-read n rest h = word-value n h
-
--- every member is a byte
-abbrev pub AllBytes : List ℕ → Type 0
-AllBytes bs = (b : ℕ) → List·Memᴰ b bs → b < 256
 
 -- so it is of no bytes,
 pub bytes-none : AllBytes []

@@ -1,6 +1,6 @@
 -- 01: "Records of one fixed size, no header, numbers little-endian." A table is the list of its bytes.
-use mathlib.Core.List.{List, [], _∷_}
-use Prim.Native.Nat.{ℕ, _+_, _*_, _/_, _%_}
+use mathlib.Core.List.{List, [], _∷_, List·Memᴰ}
+use Prim.Native.Nat.{ℕ, _+_, _*_, _/_, _%_, _<_}
 use lib.ListN.{length, getD, take, drop}
 
 -- the byte at a place
@@ -22,3 +22,7 @@ recordAt size bs k = take size (drop (size * k) bs)
 -- a number below 65536 as two bytes, the low one first
 abbrev pub wordBytes : ℕ → List ℕ
 wordBytes n = n % 256 ∷ n / 256 % 256 ∷ []
+
+-- the numbers of a list are bytes, as those of every slice are
+abbrev pub AllBytes : List ℕ → Type 0
+AllBytes bs = (b : ℕ) → List·Memᴰ b bs → b < 256
