@@ -1,6 +1,7 @@
 -- Laws that the proofs of the code cite: a record as a part of its table, searches from the front, arrays filled from the front.
 use mathlib.Core.Bool.{Bool, true, false, cond, _||_}
 use mathlib.Core.List.{List, [], _∷_, _++_, map, map-append, append-assoc}
+use mathlib.Core.Logic.{⊎-elim}
 use mathlib.Core.Option.{Option, some, none}
 use mathlib.Core.Path.{_≡_, refl, sym, ap, ap₂, _∙_}
 use Prim.Native.Nat.{ℕ, suc, _+_, _*_, _-_, _≤_, _<_, min}
@@ -88,14 +89,14 @@ some-either p q n = same-test (someBelow (λ j. p j || q j) n) (someBelow p n ||
     to : T (someBelow (λ j. p j || q j) n) → T (someBelow p n || someBelow q n)
     to h =
         let r = someBelow-some (λ j. p j || q j) n h in
-        mathlib.Core.Logic.⊎-elim
+        ⊎-elim
         (λ w. or-left (someBelow p n) (someBelow q n) (some-someBelow p n (r .0) (r .1) w))
         (λ w. or-right (someBelow p n) (someBelow q n) (some-someBelow q n (r .0) (r .1) w))
         (or-cases (p (r .0)) (q (r .0)) (r .2))
 
     from : T (someBelow p n || someBelow q n) → T (someBelow (λ j. p j || q j) n)
     from h =
-        mathlib.Core.Logic.⊎-elim
+        ⊎-elim
         (λ w. let r = someBelow-some p n w in some-someBelow (λ j. p j || q j) n (r .0) (r .1) (or-left (p (r .0)) (q (r .0)) (r .2)))
         (λ w. let r = someBelow-some q n w in some-someBelow (λ j. p j || q j) n (r .0) (r .1) (or-right (p (r .0)) (q (r .0)) (r .2)))
         (or-cases (someBelow p n) (someBelow q n) h)

@@ -11,7 +11,9 @@ use lib.ListN.{length}
 use Rattle.tables.specs.Words.{firstBelow, First}
 use Rattle.tables.specs.TermTable.{termCount, breaksLayout, hadOtherArity, equalsEarlier}
 use Rattle.tables.specs.LiteralTable.{literalCount, breaksLiteral}
-use Rattle.tables.specs.Checks.{placeOf, lengthRow, countRow, layoutRow, arityRow, repeatedRow, literalRow, refuse, checked, numberOf, placeIn}
+use Rattle.tables.specs.Checks.{foundOf, placeOf, lengthRow, countRow, layoutRow, arityRow, repeatedRow, literalRow, refuse, checked, numberOf, placeIn}
+use Rattle.tables.specs.declared.Found.{Found}
+use Rattle.tables.specs.declared.Found.the-variants.{At, Nothing}
 use Rattle.tables.specs.declared.Check.{Check}
 use Rattle.tables.specs.declared.Check.the-variants.{Sound, Length, Count, Layout, Arity, Repeated, Literal}
 use Rattle.tables.proofs.Words.{firstBelow-some, firstBelow-none, first-firstBelow, none-firstBelow}
@@ -28,6 +30,14 @@ refuse-at row o next place e = ap (λ (w : Option ℕ). refuse row w next) e
 pub refuse-next : (row : ℕ → Check) (o : Option ℕ) (next : Check) → o ≡ none → refuse row o next ≡ next
 unfolding refuse
 refuse-next row o next e = ap (λ (w : Option ℕ). refuse row w next) e
+
+-- where the code found a place for the row, the row refuses there
+pub refuse-found : (row : ℕ → Check) (r : Found) (o : Option ℕ) (next : Check) (place : ℕ) → foundOf r ≡ o → r ≡ At place → refuse row o next ≡ row place
+refuse-found row r o next place e q = refuse-at row o next place (sym e ∙ ap foundOf q)
+
+-- where it found nothing, it is left to the next
+pub refuse-nothing : (row : ℕ → Check) (r : Found) (o : Option ℕ) (next : Check) → foundOf r ≡ o → r ≡ Nothing → refuse row o next ≡ next
+refuse-nothing row r o next e q = refuse-next row o next (sym e ∙ ap foundOf q)
 
 -- the refusals of row n carry its number and their place
 record Row (n : ℕ) (row : ℕ → Check) : Type 0 where

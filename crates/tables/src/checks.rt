@@ -5,7 +5,8 @@ use super::Found;
 use super::literal_table;
 use super::term_table;
 ghost use mathlib.Core.Path.{_≡_};
-ghost use Rattle.tables.specs.Checks.{foundOf, placeOf, lengthRow, countRow, checked};
+ghost use Rattle.tables.specs.Checks.{foundOf, placeOf, lengthRow, countRow, layoutRow, arityRow, repeatedRow, literalRow, refuse, checked};
+ghost use Rattle.tables.specs.declared.Check.the-variants.{Sound, Layout, Arity, Repeated, Literal};
 
 // "the lower place first": 0 for the terms, 1 for the literals.
 fn place(terms: bool, literals: bool) -> Found
@@ -34,6 +35,32 @@ fn count_row(terms: &[u8], literals: &[u8]) -> Found
     place(terms.len() / 16 > 256, literals.len() / 8 > 1024)
 }
 
+// Row 6, once the rows of the terms refuse nothing.
+fn check_literals(terms: &[u8], literals: &[u8]) -> Check
+    ensures { λ r. ⌜ r ≡ refuse Literal (literalRow (now (terms .entry)) (now (literals .entry))) Sound ⌝ }
+{
+    if let Found::At(place) = literal_table::literal_row(terms.len() / 16, literals) {
+        return Check::Literal(place);
+    }
+    Check::Sound
+}
+
+// Rows 3 to 5, and the row after them, once the sizes refuse nothing.
+fn check_terms(terms: &[u8], literals: &[u8]) -> Check
+    ensures { λ r. ⌜ r ≡ refuse Layout (layoutRow (now (terms .entry))) (refuse Arity (arityRow (now (terms .entry))) (refuse Repeated (repeatedRow (now (terms .entry))) (refuse Literal (literalRow (now (terms .entry)) (now (literals .entry))) Sound))) ⌝ }
+{
+    if let Found::At(place) = term_table::layout_row(terms) {
+        return Check::Layout(place);
+    }
+    if let Found::At(place) = term_table::arity_row(terms) {
+        return Check::Arity(place);
+    }
+    if let Found::At(place) = term_table::repeated_row(terms) {
+        return Check::Repeated(place);
+    }
+    check_literals(terms, literals)
+}
+
 // Rows 1 to 6: "Checks run in the order of the rows, each over its whole table before the next".
 pub fn check(terms: &[u8], literals: &[u8]) -> Check
     ensures { λ r. ⌜ r ≡ checked (now (terms .entry)) (now (literals .entry)) ⌝ }
@@ -44,17 +71,5 @@ pub fn check(terms: &[u8], literals: &[u8]) -> Check
     if let Found::At(place) = count_row(terms, literals) {
         return Check::Count(place);
     }
-    if let Found::At(place) = term_table::layout_row(terms) {
-        return Check::Layout(place);
-    }
-    if let Found::At(place) = term_table::arity_row(terms) {
-        return Check::Arity(place);
-    }
-    if let Found::At(place) = term_table::repeated_row(terms) {
-        return Check::Repeated(place);
-    }
-    if let Found::At(place) = literal_table::literal_row(terms.len() / 16, literals) {
-        return Check::Literal(place);
-    }
-    Check::Sound
+    check_terms(terms, literals)
 }
