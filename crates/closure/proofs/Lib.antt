@@ -7,3 +7,4 @@ pub mod Count
 pub mod Model
 pub mod Classes
 pub mod Parents
+pub mod Numbered

@@ -1,5 +1,7 @@
 // The closure layer of document 01: the graph, and the library's own run of closure steps over the tables read.
 
+pub mod graph;
+
 use tables::Side;
 
 // Where an edge comes from.
