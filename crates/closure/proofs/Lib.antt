@@ -8,3 +8,4 @@ pub mod Model
 pub mod Classes
 pub mod Parents
 pub mod Numbered
+pub mod Rooted

@@ -10,6 +10,7 @@ use lib.ListN.{length, getD, set, length-map}
 use lib.Seq.{getD-set-same, getD-set-other}
 use Rattle.closure.specs.Graph.{Edge, Graph, Hop, forth, back}
 use Rattle.closure.specs.Walks.{HopOf, onward, backward, earlier}
+use Rattle.closure.specs.Forests.{Each}
 use Rattle.closure.specs.Layout.{noEdge, newestFirst}
 
 -- an array of structs has the length that its fields' array has: what owning it tells is said of those
@@ -57,3 +58,13 @@ hop-by es zero k = elim k [ ]
 hop-by es (suc n) {h} (onward q) = let r : length (h .older) ≡ n = ap (λ (g : Hop). length (g .older)) q ∙ newestFirst-length n es in (omega arith, inl (q ∙ ap (forthBy es) (sym r)))
 hop-by es (suc n) {h} (backward q) = let r : length (h .older) ≡ n = ap (λ (g : Hop). length (g .older)) q ∙ newestFirst-length n es in (omega arith, inr (q ∙ ap (backBy es) (sym r)))
 hop-by es (suc n) (earlier k) = let r = hop-by es n k in (omega (arith, r .0), r .1)
+
+-- what holds of each of the first n edges holds of edge number i
+pub each-by : (P : Graph → Edge → Type 0) (es : List Edge) (i n : ℕ) → i < n → Each P (newestFirst n es) → P (newestFirst i es) (getD es i noEdge)
+unfolding newestFirst
+each-by P es i zero h p = absurd (not-suc-le-zero h)
+each-by P es i (suc n) h p = go (eq-or-lt-of-le h) (λ k. each-by P es i n k (p .1))
+  where
+    go : (suc i ≡ suc n) ⊎ (suc i < suc n) → (i < n → P (newestFirst i es) (getD es i noEdge)) → P (newestFirst i es) (getD es i noEdge)
+    go (inl q) f = let q′ : n ≡ i = omega arith in subst (λ (k : ℕ). P (newestFirst k es) (getD es k noEdge)) q′ (p .0)
+    go (inr k) f = f (omega arith)

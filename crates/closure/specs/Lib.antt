@@ -4,3 +4,5 @@ pub mod Walks
 pub mod Steps
 pub mod OwnRun
 pub mod Layout
+pub mod Forests
+pub mod Rooting
