@@ -1,6 +1,5 @@
 -- What holds of every edge of a graph, over the edges older than it: the form of every invariant of a run.
-use mathlib.Core.Bool.{not}
-use mathlib.Core.List.{List, [], _∷_, List·Memᴰ}
+use mathlib.Core.List.{List, List·Memᴰ}
 use mathlib.Core.Path.{_≡_}
 use Prim.Native.Nat.{ℕ, _<_}
 use lib.Dec.{T}
@@ -9,7 +8,7 @@ use Rattle.tables.specs.Terms.{Term, termAt, LowerArguments}
 use Rattle.tables.specs.LiteralTable.{Literal, equal}
 use Rattle.tables.specs.declared.Side.{Side}
 use Rattle.tables.specs.Colours.{edgeColourable}
-use Rattle.closure.specs.Graph.{Edge, EdgeKind, basic, derived, Graph, joined}
+use Rattle.closure.specs.Graph.{Edge, EdgeKind, basic, derived, Graph}
 use Rattle.closure.specs.Steps.{congruent, HasSides}
 pub use Rattle.closure.specs.Forests.{Each, Unjoined, Forest}
 

@@ -9,3 +9,4 @@ pub mod Classes
 pub mod Parents
 pub mod Numbered
 pub mod Rooted
+pub mod Climbs

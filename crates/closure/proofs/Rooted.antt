@@ -6,14 +6,14 @@ use Prim.Native.Nat.{ℕ, zero, suc, _+_, _≤_, _<_}
 use native.Mathlib.Nat.{not-suc-le-zero, eq-zero-or-pos}
 use native.Mathlib.Numerals.{add-one}
 use native.Mathlib.Omega.{arith}
-use lib.Dec.{T, eqb, eqb→eq, eqb-refl}
+use lib.Dec.{T, eqb}
 use lib.ListN.{length, getD, set, replicate, length-set, length-replicate}
 use lib.Seq.{getD-set-same, getD-set-other}
 use borrow.Author.Tests.{eqb-true, eqb-false}
 use Rattle.tables.specs.Words.{below}
 use Rattle.tables.proofs.Words.{by-test}
 use Rattle.tables.proofs.Filled.{map-below-at}
-use Rattle.closure.specs.Graph.{Edge, Graph, Hop, Path, label, joined, path}
+use Rattle.closure.specs.Graph.{Edge, Graph, Hop, Path, label}
 use Rattle.closure.specs.Walks.{HopOf, onward, backward, earlier, Walk, stay, hop}
 use Rattle.closure.specs.Forests.{EndsBelow}
 use Rattle.closure.specs.Layout.{noEdge, newestFirst}

@@ -6,3 +6,4 @@ pub mod OwnRun
 pub mod Layout
 pub mod Forests
 pub mod Rooting
+pub mod Trails

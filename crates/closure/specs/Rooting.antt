@@ -1,15 +1,13 @@
 -- The rooted forest: each vertex but the roots has the edge toward its root. The root of a set of joined terms is the term that its label names.
 -- Three lists say it of the numbers below 511: the neighbour toward the root, the number of the edge that leads there, and a rank that is 1 at a
 -- root and falls toward it.
-use mathlib.Core.List.{List, [], _∷_, map}
+use mathlib.Core.List.{List, [], _∷_}
 use mathlib.Core.Logic.{_⊎_}
 use mathlib.Core.Path.{_≡_}
 use Prim.Native.Nat.{ℕ, zero, suc, _+_, _≤_, _<_}
-use lib.Dec.{T}
-use lib.ListN.{length, getD, set, take}
-use Rattle.closure.specs.Graph.{Graph, Hop, Path, label, joined, path, vertices}
+use lib.ListN.{length, getD, set}
+use Rattle.closure.specs.Graph.{Graph, Hop, label}
 use Rattle.closure.specs.Walks.{HopOf}
-use Rattle.closure.specs.Forests.{Forest}
 use Rattle.closure.specs.declared.rooting.Rooting.{Rooting}
 
 -- an edge as the code counts: how many are older

@@ -4,9 +4,8 @@ use super::Edge;
 use super::EdgeKind;
 use tables::Side;
 ghost use mathlib.Core.Path.{_≡_};
-ghost use mathlib.Core.List.{List, [], _∷_};
+ghost use mathlib.Core.List.{[], _∷_};
 ghost use Prim.Native.Nat.{_+_, _<_};
-ghost use lib.ListN.{set};
 ghost use Rattle.closure.specs.Layout.{edgesOf};
 
 pub struct Graph {

@@ -1,5 +1,4 @@
 -- `closure::rooting::pass` meets its contract: the edges looked at lead to nothing new, or something more was reached.
-use borrow.Author.Needs.{needs}
 use native.Mathlib.Omega.{arith}
 use mathlib.Core.Path.{_≡_, sym, subst}
 use Prim.Native.Nat.{ℕ, _+_, _≤_, _<_, _-_}
@@ -11,9 +10,6 @@ use Rattle.closure.specs.declared.rooting.Rooting.{Rooting}
 use Rattle.closure.proofs.Rooted.{Passing, reached-within, ends-here, reach-left, reach-right, reach-none}
 use Rattle.closure.proofs.rooting.pass.Statement.{statement}
 use Rattle.closure.proofs.rooting.pass.Tie as tie
-use Rattle.closure.proofs.rooting.pass.Reads as reads
-use Rattle.closure.proofs.rooting.pass.Lts as lts
-use Rattle.closure.proofs.rooting.Rooting.reach.Reads as reach-reads
 
 abbrev Inv-loop : tie.InvT-loop
 Inv-loop graph r₀ count i₀ r i = (i ≤ count) × Passing (newestFirst (graph .count) (graph .edges)) (graph .edges) r₀ r i

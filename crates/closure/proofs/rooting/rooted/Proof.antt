@@ -1,17 +1,11 @@
 -- `closure::rooting::rooted` meets its contract: every pass but the last reaches more of the 511 vertices, and after the last no edge leads on.
-use borrow.Author.Needs.{needs}
 use native.Mathlib.Omega.{arith}
-use mathlib.Core.Path.{_≡_, refl}
-use Prim.Native.Nat.{_≤_, _<_, _-_}
+use Prim.Native.Nat.{_-_}
 use Rattle.closure.specs.Layout.{edgesOf}
 use Rattle.closure.specs.Rooting.{Growing}
 use Rattle.closure.proofs.Rooted.{all-rooted, reached-within}
 use Rattle.closure.proofs.rooting.rooted.Statement.{statement}
 use Rattle.closure.proofs.rooting.rooted.Tie as tie
-use Rattle.closure.proofs.rooting.rooted.Reads as reads
-use Rattle.closure.proofs.rooting.rooted.Lts as lts
-use Rattle.closure.proofs.rooting.pass.Reads as pass-reads
-use Rattle.closure.proofs.rooting.roots.Reads as roots-reads
 
 abbrev Inv-loop : tie.InvT-loop
 Inv-loop graph labels r₀ r = Growing (edgesOf graph) r

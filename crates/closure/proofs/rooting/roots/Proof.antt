@@ -1,13 +1,10 @@
 -- `closure::rooting::roots` meets its contract: the numbers that are their own labels are marked, from the front.
-use borrow.Author.Needs.{needs}
 use native.Mathlib.Omega.{arith}
 use mathlib.Core.Logic.{⊎-elim}
-use Prim.Native.Nat.{_≤_, _<_, _-_}
+use Prim.Native.Nat.{_-_}
 use Rattle.closure.proofs.Rooted.{positives-length, Marking, marking-same, marking-none, marking-root, marking-other, marking-growing}
 use Rattle.closure.proofs.rooting.roots.Statement.{statement}
 use Rattle.closure.proofs.rooting.roots.Tie as tie
-use Rattle.closure.proofs.rooting.roots.Reads as reads
-use Rattle.closure.proofs.rooting.roots.Lts as lts
 
 abbrev Inv-loop : tie.InvT-loop
 Inv-loop labels rank₀ reached₀ v₀ rank reached v = Marking labels rank reached v

@@ -7,8 +7,6 @@ use Rattle.closure.specs.Layout.{edgesOf}
 use Rattle.closure.proofs.Numbered.{struct-length, newestFirst-more}
 use Rattle.closure.proofs.graph.Graph.with_edge.Statement.{statement}
 use Rattle.closure.proofs.graph.Graph.with_edge.Tie as tie
-use Rattle.closure.proofs.graph.Graph.with_edge.Reads as reads
-use Rattle.closure.proofs.graph.Graph.with_edge.Lts as lts
 
 mul-e : tie.Need-mul-e
 mul-e c = search needs
