@@ -19,7 +19,7 @@ add-self c = search needs
 
 returns : tie.Need-returns
 unfolding edgesOf
-returns c = let h : length (c .args .t1 .edges) ≡ 510 = search (needs, struct-length) in (newestFirst-more (c .args .t1 .count) (c .args .t1 .edges) (c .args .e) (omega arith), refl)
+returns c = let h : length (c .args .t1 .edges) ≡ 510 = search (needs, struct-length) in (newestFirst-more (c .args .t1 .count) (c .args .t1 .edges) (c .args .e) (omega arith), refl, refl)
 
 pub with-edge-spec : {M : Type 1} → statement M
 with-edge-spec = tie.close (tie.spec mul-e element-set-from-e add-self returns)
