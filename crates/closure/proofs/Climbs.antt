@@ -2,23 +2,25 @@
 use mathlib.Core.List.{List, [], _∷_, _++_, map, map-append, append-assoc, append-nil, List·Memᴰ, List·Memᴰ·not-nil, List·Memᴰ·cases-cons, List·Memᴰ·append-cases, Memᴰ·cast, Memᴰ·append-left, Memᴰ·append-right}
 use mathlib.Core.Logic.{inl, inr, ⊎-elim}
 use mathlib.Core.Path.{_≡_, refl, sym, ap, ap₂, subst, _∙_}
-use Prim.Native.Nat.{ℕ, zero, suc, _+_, _-_, _≤_, _<_}
-use native.Mathlib.Nat.{le-of-lt, lt-irrefl, not-suc-le-zero}
+use Prim.Native.Nat.{ℕ, _+_, _-_, _≤_, _<_}
+use native.Mathlib.Nat.{le-of-lt, lt-irrefl}
 use native.Mathlib.Numerals.{add-one}
 use native.Mathlib.Omega.{arith}
 use lib.Dec.{T}
 use lib.ListN.{length, getD, take, set, replicate, length-append, length-set, length-map, length-replicate}
-use lib.Seq.{length-take-le, take-suc-set, getD-set-same, getD-set-other}
+use lib.Seq.{length-take-le, take-suc-set}
 use Rattle.closure.specs.Graph.{Graph, Path, joined, path, vertices}
 use Rattle.closure.specs.Walks.{Walk, stay, hop, Once, nothing, new}
 use Rattle.closure.specs.Forests.{Forest}
+use Rattle.closure.specs.Layout.{lastFirst}
 use Rattle.closure.specs.Rooting.{number, Toward, Leads, RootedBy}
-use Rattle.closure.specs.Trails.{Joining, TrailOf, lastFirst}
+use Rattle.closure.specs.Trails.{Joining, TrailOf, fromLast}
 use Rattle.closure.specs.declared.paths.Trail.{Trail}
 use Rattle.closure.proofs.Joined.{joined-label, joined-sym, joined-trans}
 use Rattle.closure.proofs.Walks.{walk-joined, walk-append}
 use Rattle.closure.proofs.OnePath.{once-left, once-right, once-apart, once-append, vertices-append, turned, turned-hop, one-path}
 use Rattle.closure.proofs.Count.{once-length}
+use Rattle.closure.proofs.Numbered.{lastFirst-length, lastFirst-more, lastFirst-less}
 
 -- ---- lists
 
@@ -26,35 +28,12 @@ use Rattle.closure.proofs.Count.{once-length}
 pub take-more : (l : List ℕ) (k x : ℕ) → k < length l → take (k + 1) (set l k x) ≡ take k l ++ (x ∷ [])
 take-more l k x h = rw (add-one, take-suc-set)
 
--- there are as many as are asked for
-pub lastFirst-length : (n : ℕ) (l : List ℕ) → length (lastFirst n l) ≡ n
-unfolding lastFirst
-lastFirst-length zero l = refl
-lastFirst-length (suc n) l = ap suc (lastFirst-length n l)
-
--- a store past them changes none
-lastFirst-kept : (n : ℕ) (l : List ℕ) (i x : ℕ) → n ≤ i → lastFirst n (set l i x) ≡ lastFirst n l
-unfolding lastFirst
-lastFirst-kept zero l i x h = refl
-lastFirst-kept (suc n) l i x h = ap₂ _∷_ (getD-set-other l i n x 0 (λ q. lt-irrefl n (subst (λ (y : ℕ). n < y) (sym q) h))) (lastFirst-kept n l i x (omega arith))
-
--- one number more comes first
-pub lastFirst-more : (l : List ℕ) (k x : ℕ) → k < length l → lastFirst (k + 1) (set l k x) ≡ x ∷ lastFirst k l
-unfolding lastFirst
-lastFirst-more l k x h = rw (add-one, getD-set-same l k x 0 h, lastFirst-kept k l k x (omega arith))
-
--- the last of them, and the others
-pub lastFirst-less : (l : List ℕ) (i : ℕ) → 0 < i → lastFirst i l ≡ getD l (i - 1) 0 ∷ lastFirst (i - 1) l
-unfolding lastFirst
-lastFirst-less l zero h = absurd (not-suc-le-zero h)
-lastFirst-less l (suc i) h = let q : i ≡ suc i - 1 = omega arith in ap (λ (n : ℕ). getD l n 0 ∷ lastFirst n l) q
-
 -- the last of one list goes to the end of the other
-pub moved : (l m : List ℕ) (k i : ℕ) → k < length l → 0 < i → take (k + 1) (set l k (getD m (i - 1) 0)) ++ lastFirst (i - 1) m ≡ take k l ++ lastFirst i m
+pub moved : (l m : List ℕ) (k i : ℕ) → k < length l → 0 < i → take (k + 1) (set l k (getD m (i - 1) 0)) ++ fromLast (i - 1) m ≡ take k l ++ fromLast i m
 moved l m k i h p =
-    ap (λ (t : List ℕ). t ++ lastFirst (i - 1) m) (take-more l k (getD m (i - 1) 0) h) ∙
-    append-assoc (take k l) (getD m (i - 1) 0 ∷ []) (lastFirst (i - 1) m) ∙
-    ap (λ (t : List ℕ). take k l ++ t) (sym (lastFirst-less m i p))
+    ap (λ (t : List ℕ). t ++ fromLast (i - 1) m) (take-more l k (getD m (i - 1) 0) h) ∙
+    append-assoc (take k l) (getD m (i - 1) 0 ∷ []) (fromLast (i - 1) m) ∙
+    ap (λ (t : List ℕ). take k l ++ t) (sym (lastFirst-less 0 i m p))
 
 -- ---- a trail, and back along another
 
@@ -62,8 +41,8 @@ moved l m k i h p =
 pub record Returning (near far r : Trail) (k i : ℕ) : Type 0 where
   pub long : (length (r .stops) ≡ 511) × (length (r .edges) ≡ 511)
   pub sum : k + i ≡ near .hops + far .hops
-  pub stops : take (k + 1) (r .stops) ++ lastFirst i (far .stops) ≡ take (near .hops + 1) (near .stops) ++ lastFirst (far .hops) (far .stops)
-  pub edges : take k (r .edges) ++ lastFirst i (far .edges) ≡ take (near .hops) (near .edges) ++ lastFirst (far .hops) (far .edges)
+  pub stops : take (k + 1) (r .stops) ++ fromLast i (far .stops) ≡ take (near .hops + 1) (near .stops) ++ fromLast (far .hops) (far .stops)
+  pub edges : take k (r .edges) ++ fromLast i (far .edges) ≡ take (near .hops) (near .edges) ++ fromLast (far .hops) (far .edges)
 
 -- one of them
 pub returning-more : {near far r : Trail} {k i : ℕ} → near .hops + far .hops ≤ 510 → 0 < i → Returning near far r k i → Returning near far (record { stops = set (r .stops) (k + 1) (getD (far .stops) (i - 1) 0); edges = set (r .edges) k (getD (far .edges) (i - 1) 0); hops = r .hops }) (k + 1) (i - 1)
@@ -76,12 +55,12 @@ returning-more {near} {far} {r} {k} {i} b h w =
     }
 
 -- all of them
-pub returning-all : {near far r : Trail} {k i : ℕ} → i ≡ 0 → Returning near far r k i → (k ≡ near .hops + far .hops) × (take (k + 1) (r .stops) ≡ take (near .hops + 1) (near .stops) ++ lastFirst (far .hops) (far .stops)) × (take k (r .edges) ≡ take (near .hops) (near .edges) ++ lastFirst (far .hops) (far .edges))
+pub returning-all : {near far r : Trail} {k i : ℕ} → i ≡ 0 → Returning near far r k i → (k ≡ near .hops + far .hops) × (take (k + 1) (r .stops) ≡ take (near .hops + 1) (near .stops) ++ fromLast (far .hops) (far .stops)) × (take k (r .edges) ≡ take (near .hops) (near .edges) ++ fromLast (far .hops) (far .edges))
 unfolding lastFirst
 returning-all {near} {far} {r} {k} {i} z w = (
   omega (arith, w .sum),
-  sym (append-nil (take (k + 1) (r .stops))) ∙ ap (λ (n : ℕ). take (k + 1) (r .stops) ++ lastFirst n (far .stops)) (sym z) ∙ w .stops,
-  sym (append-nil (take k (r .edges))) ∙ ap (λ (n : ℕ). take k (r .edges) ++ lastFirst n (far .edges)) (sym z) ∙ w .edges,
+  sym (append-nil (take (k + 1) (r .stops))) ∙ ap (λ (n : ℕ). take (k + 1) (r .stops) ++ fromLast n (far .stops)) (sym z) ∙ w .stops,
+  sym (append-nil (take k (r .edges))) ∙ ap (λ (n : ℕ). take k (r .edges) ++ fromLast n (far .edges)) (sym z) ∙ w .edges,
 )
 
 -- ---- where the climbs have been
@@ -119,7 +98,7 @@ apart-fewer rank F R {a} {b} p =
       once-length 511 (once-insert F R a (λ m. p .behind a m .1 refl) (p .once)) (insert-all (λ x. x < 511) F R a (p .a-within) (λ x m. p .behind x m .0)),
     )
 
--- two lower ranks are two vertices
+-- a vertex of lower rank is another
 rank-differs : (rank : List ℕ) {t : ℕ} (x : ℕ) → getD rank t 0 < getD rank x 0 → x ≡ t → ⊥
 rank-differs rank x h q = lt-irrefl (getD rank x 0) (subst (λ (y : ℕ). getD rank y 0 < getD rank x 0) (sym q) h)
 
@@ -227,8 +206,8 @@ walked-path G f {F} {FE} {R} {RE} {u} {v} {a} {b} w q o =
 pub record Climbing (toward by rank : List ℕ) (u v : ℕ) (stops edges back-stops back-edges : List ℕ) (a b up down : ℕ) : Type 0 where
   pub long : (length stops ≡ 511) × (length edges ≡ 511) × (length back-stops ≡ 511) × (length back-edges ≡ 511)
   pub short : up ≤ 511
-  pub apart : Apart rank (take up stops) (lastFirst down back-stops) a b
-  pub walked : (G : Graph) → Joining toward by rank u v G → Walked G (take up stops) (take up edges) (lastFirst down back-stops) (lastFirst down back-edges) u v a b
+  pub apart : Apart rank (take up stops) (fromLast down back-stops) a b
+  pub walked : (G : Graph) → Joining toward by rank u v G → Walked G (take up stops) (take up edges) (fromLast down back-stops) (fromLast down back-edges) u v a b
 
 -- at the start
 pub climbing-none : (toward by rank : List ℕ) (u v : ℕ) → u < 511 → v < 511 → Climbing toward by rank u v (replicate 511 0) (replicate 511 0) (replicate 511 0) (replicate 511 0) u v 0 0
@@ -245,7 +224,7 @@ climbing-none toward by rank u v hu hv =
 module _ {toward by rank : List ℕ} {u v : ℕ} {stops edges back-stops back-edges : List ℕ} {a b up down : ℕ} (c : Climbing toward by rank u v stops edges back-stops back-edges a b up down) where
   -- there is room for every stop
   pub climbing-room : up + down ≤ 510
-  climbing-room = omega (arith, apart-fewer rank (take up stops) (lastFirst down back-stops) (c .apart), length-take-le up stops (omega (arith, c .short, c .long .0)), lastFirst-length down back-stops)
+  climbing-room = omega (arith, apart-fewer rank (take up stops) (fromLast down back-stops) (c .apart), length-take-le up stops (omega (arith, c .short, c .long .0)), lastFirst-length 0 down back-stops)
 
   -- the two stand on joined vertices
   climbing-joined : (G : Graph) → Joining toward by rank u v G → T (joined G a b)
@@ -253,14 +232,15 @@ module _ {toward by rank : List ℕ} {u v : ℕ} {stops edges back-stops back-ed
       let w = c .walked G j in
       joined-trans G a u b (joined-sym G u a (walk-joined (w .there))) (joined-trans G u v b (j .join) (joined-sym G b v (walk-joined (w .onward))))
 
-  -- the one that stands no lower can go on
+  -- the first can go on where it stands no lower
   pub climbs-left : (G : Graph) → Joining toward by rank u v G → (a ≡ b → ⊥) → getD rank b 0 ≤ getD rank a 0 → Toward G toward by rank a
   climbs-left G j d h = no-root G toward by rank (j .rooted) (c .apart .a-within) (c .apart .b-within) (climbing-joined G j) d h
 
+  -- so can the second
   pub climbs-right : (G : Graph) → Joining toward by rank u v G → (a ≡ b → ⊥) → getD rank a 0 ≤ getD rank b 0 → Toward G toward by rank b
   climbs-right G j d h = no-root G toward by rank (j .rooted) (c .apart .b-within) (c .apart .a-within) (joined-sym G a b (climbing-joined G j)) (λ q. d (sym q)) h
 
-  -- and goes on
+  -- the first goes on
   pub climbing-left : (H : Graph) → Joining toward by rank u v H → (a ≡ b → ⊥) → getD rank b 0 ≤ getD rank a 0 → Climbing toward by rank u v (set stops up a) (set edges up (getD by a 0)) back-stops back-edges (getD toward a 0) b (up + 1) down
   climbing-left H k d h =
       let t = climbs-left H k d h in
@@ -270,40 +250,41 @@ module _ {toward by rank : List ℕ} {u v : ℕ} {stops edges back-stops back-ed
       record {
         long = (length-set stops up a ∙ c .long .0, length-set edges up (getD by a 0) ∙ c .long .1, c .long .2, c .long .3);
         short = omega arith;
-        apart = subst (λ (l : List ℕ). Apart rank l (lastFirst down back-stops) (getD toward a 0) b) (sym s) (apart-left rank (take up stops) (lastFirst down back-stops) (getD toward a 0) (c .apart) d (t .within) h (t .lower));
+        apart = subst (λ (l : List ℕ). Apart rank l (fromLast down back-stops) (getD toward a 0) b) (sym s) (apart-left rank (take up stops) (fromLast down back-stops) (getD toward a 0) (c .apart) d (t .within) h (t .lower));
         walked = λ G j.
-            subst (λ (l : List ℕ). Walked G l (take (up + 1) (set edges up (getD by a 0))) (lastFirst down back-stops) (lastFirst down back-edges) u v (getD toward a 0) b) (sym s)
-            (subst (λ (l : List ℕ). Walked G (take up stops ++ (a ∷ [])) l (lastFirst down back-stops) (lastFirst down back-edges) u v (getD toward a 0) b) (sym e)
+            subst (λ (l : List ℕ). Walked G l (take (up + 1) (set edges up (getD by a 0))) (fromLast down back-stops) (fromLast down back-edges) u v (getD toward a 0) b) (sym s)
+            (subst (λ (l : List ℕ). Walked G (take up stops ++ (a ∷ [])) l (fromLast down back-stops) (fromLast down back-edges) u v (getD toward a 0) b) (sym e)
             (walked-left (c .walked G j) (climbs-left G j d h)));
       }
 
+  -- the second goes on
   pub climbing-right : (H : Graph) → Joining toward by rank u v H → (a ≡ b → ⊥) → getD rank a 0 ≤ getD rank b 0 → Climbing toward by rank u v stops edges (set back-stops down b) (set back-edges down (getD by b 0)) a (getD toward b 0) up (down + 1)
   climbing-right H k d h =
       let t = climbs-right H k d h in
       let room = climbing-room in
-      let s : lastFirst (down + 1) (set back-stops down b) ≡ b ∷ lastFirst down back-stops = lastFirst-more back-stops down b (omega (arith, c .long .2)) in
-      let e : lastFirst (down + 1) (set back-edges down (getD by b 0)) ≡ getD by b 0 ∷ lastFirst down back-edges = lastFirst-more back-edges down (getD by b 0) (omega (arith, c .long .3)) in
+      let s : fromLast (down + 1) (set back-stops down b) ≡ b ∷ fromLast down back-stops = lastFirst-more 0 down back-stops b (omega (arith, c .long .2)) in
+      let e : fromLast (down + 1) (set back-edges down (getD by b 0)) ≡ getD by b 0 ∷ fromLast down back-edges = lastFirst-more 0 down back-edges (getD by b 0) (omega (arith, c .long .3)) in
       record {
         long = (c .long .0, c .long .1, length-set back-stops down b ∙ c .long .2, length-set back-edges down (getD by b 0) ∙ c .long .3);
         short = c .short;
-        apart = subst (λ (l : List ℕ). Apart rank (take up stops) l a (getD toward b 0)) (sym s) (apart-right rank (take up stops) (lastFirst down back-stops) (getD toward b 0) (c .apart) d (t .within) h (t .lower));
+        apart = subst (λ (l : List ℕ). Apart rank (take up stops) l a (getD toward b 0)) (sym s) (apart-right rank (take up stops) (fromLast down back-stops) (getD toward b 0) (c .apart) d (t .within) h (t .lower));
         walked = λ G j.
-            subst (λ (l : List ℕ). Walked G (take up stops) (take up edges) l (lastFirst (down + 1) (set back-edges down (getD by b 0))) u v a (getD toward b 0)) (sym s)
-            (subst (λ (l : List ℕ). Walked G (take up stops) (take up edges) (b ∷ lastFirst down back-stops) l u v a (getD toward b 0)) (sym e)
+            subst (λ (l : List ℕ). Walked G (take up stops) (take up edges) l (fromLast (down + 1) (set back-edges down (getD by b 0))) u v a (getD toward b 0)) (sym s)
+            (subst (λ (l : List ℕ). Walked G (take up stops) (take up edges) (b ∷ fromLast down back-stops) l u v a (getD toward b 0)) (sym e)
             (walked-right (c .walked G j) (climbs-right G j d h)));
       }
 
   -- they have met: what both have left, with where they stand, is the path
-  pub climbing-met : a ≡ b → (r : Trail) → r .hops ≡ up + down → take (r .hops + 1) (r .stops) ≡ take (up + 1) (set stops up a) ++ lastFirst down back-stops → take (r .hops) (r .edges) ≡ take up edges ++ lastFirst down back-edges → (G : Graph) → Joining toward by rank u v G → TrailOf G u v r
+  pub climbing-met : a ≡ b → (r : Trail) → r .hops ≡ up + down → take (r .hops + 1) (r .stops) ≡ take (up + 1) (set stops up a) ++ fromLast down back-stops → take (r .hops) (r .edges) ≡ take up edges ++ fromLast down back-edges → (G : Graph) → Joining toward by rank u v G → TrailOf G u v r
   climbing-met q r n s e G j =
       let F = take up stops in
-      let R = lastFirst down back-stops in
+      let R = fromLast down back-stops in
       let room = climbing-room in
       let w = walked-path G (j .forest) (c .walked G j) q (once-insert F R a (λ m. c .apart .behind a m .1 refl) (c .apart .once)) in
       let all : take (r .hops + 1) (r .stops) ≡ F ++ (a ∷ R) = s ∙ ap (λ (l : List ℕ). l ++ R) (take-more stops up a (omega (arith, c .long .0))) ∙ append-assoc F (a ∷ []) R in
       record {
         within = omega arith;
-        hops = omega (arith, ap length (w .1), length-map (path G u v) number, length-append (take up edges) (lastFirst down back-edges), length-take-le up edges (omega (arith, c .short, c .long .1)), lastFirst-length down back-edges);
+        hops = omega (arith, ap length (w .1), length-map (path G u v) number, length-append (take up edges) (fromLast down back-edges), length-take-le up edges (omega (arith, c .short, c .long .1)), lastFirst-length 0 down back-edges);
         stops = all ∙ sym (w .0);
         edges = e ∙ sym (w .1);
       }

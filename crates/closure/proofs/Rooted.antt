@@ -16,13 +16,13 @@ use Rattle.tables.proofs.Filled.{map-below-at}
 use Rattle.closure.specs.Graph.{Edge, Graph, Hop, Path, label}
 use Rattle.closure.specs.Walks.{HopOf, onward, backward, earlier, Walk, stay, hop}
 use Rattle.closure.specs.Forests.{EndsBelow}
-use Rattle.closure.specs.Layout.{noEdge, newestFirst}
+use Rattle.closure.specs.Layout.{noEdge, lastFirst, newestFirst}
 use Rattle.closure.specs.Rooting.{number, Toward, Leads, RootedBy, positives, Growing, grown, Closed}
 use Rattle.closure.specs.declared.rooting.Rooting.{Rooting}
 use Rattle.closure.proofs.Joined.{label-joined, label-cases}
 use Rattle.closure.proofs.Walks.{path-walk}
 use Rattle.closure.proofs.Count.{label-label}
-use Rattle.closure.proofs.Numbered.{newestFirst-length, forthBy, backBy, hops-by, each-by}
+use Rattle.closure.proofs.Numbered.{lastFirst-length, forthBy, backBy, hops-by, each-by}
 
 -- two numbers are the same or not
 pub same-or-not : (m n : ℕ) → (m ≡ n) ⊎ (m ≡ n → ⊥)
@@ -67,12 +67,13 @@ pub record Marking (labels rank : List ℕ) (reached v : ℕ) : Type 0 where
   pub marked : (w : ℕ) → w < v → getD labels w 0 ≡ w → getD rank w 0 ≡ 1
   pub only : (w : ℕ) → 0 < getD rank w 0 → (w < v) × (getD labels w 0 ≡ w) × (getD rank w 0 ≡ 1)
 
--- nothing is
+-- 0 stands everywhere in an array of zeros
 zeros-at : (n w : ℕ) → _≡_ {A = ℕ} (getD (replicate n 0) w 0) 0
 zeros-at zero w = refl
 zeros-at (suc n) zero = refl
 zeros-at (suc n) (suc w) = zeros-at n w
 
+-- at the start nothing is marked
 pub marking-none : (labels : List ℕ) → Marking labels (replicate 511 0) 0 0
 marking-none labels =
     record {
@@ -153,10 +154,11 @@ toward-kept {t = t} {k = k} t′ b′ k′ {w} p q r s T =
     }
 
 module _ {G : Graph} {r : Rooting} (g : Growing G r) (v from : ℕ) (h : Hop) (m : HopOf h G) (hf : h .from ≡ v) (ht : h .to ≡ from) (bv : v < 511) (bf : from < 511) (free : getD (r .rank) v 0 ≡ 0) (stood : 0 < getD (r .rank) from 0) where
-  -- the vertex that was reached keeps nothing of what stood there, every other all
+  -- every other vertex keeps its rank
   rank-other : (w : ℕ) → (w ≡ v → ⊥) → getD (grown r v from (number h) .rank) w 0 ≡ getD (r .rank) w 0
   rank-other w d = getD-set-other (r .rank) v w (getD (r .rank) from 0 + 1) 0 d
 
+  -- the vertex that is reached has one more than its neighbour
   rank-here : getD (grown r v from (number h) .rank) v 0 ≡ getD (r .rank) from 0 + 1
   rank-here = getD-set-same (r .rank) v (getD (r .rank) from 0 + 1) 0 (omega (arith, g .long .2))
 
@@ -215,7 +217,7 @@ label-below n (e ∷ G) ends v h = ⊎-elim (λ c. subst (λ (x : ℕ). x < n) (
 
 -- one edge more leads nowhere new, where both its ends are reached or neither
 pub closed-more : (es : List Edge) (i : ℕ) (rank : List ℕ) → Closed (newestFirst i es) rank → (0 < getD rank (getD es i noEdge .left) 0 → 0 < getD rank (getD es i noEdge .right) 0) → (0 < getD rank (getD es i noEdge .right) 0 → 0 < getD rank (getD es i noEdge .left) 0) → Closed (newestFirst (i + 1) es) rank
-unfolding newestFirst
+unfolding lastFirst
 closed-more es i rank c f b h k = go (subst (λ (n : ℕ). HopOf h (newestFirst n es)) (add-one i) k)
   where
     go : HopOf h (newestFirst (suc i) es) → 0 < getD rank (h .from) 0 → 0 < getD rank (h .to) 0
@@ -231,6 +233,7 @@ pub record Passing (G : Graph) (es : List Edge) (start r : Rooting) (i : ℕ) : 
 
 -- the next edge: where just one end is reached, the other is reached from it
 module _ (es : List Edge) (n : ℕ) {start r : Rooting} {i : ℕ} (p : Passing (newestFirst n es) es start r i) (h : i < n) (ends : EndsBelow 511 (newestFirst n es)) where
+  -- its ends are vertices
   pub ends-here : (getD es i noEdge .left < 511) × (getD es i noEdge .right < 511)
   ends-here = each-by (λ G e. (e .left < 511) × (e .right < 511)) es i n h ends
 
@@ -243,11 +246,13 @@ module _ (es : List Edge) (n : ℕ) {start r : Rooting} {i : ℕ} (p : Passing (
         closed = λ e. absurd (omega (arith, p .more));
       }
 
+  -- its left end is reached
   pub reach-left : getD (r .rank) (getD es i noEdge .left) 0 ≡ 0 → (getD (r .rank) (getD es i noEdge .right) 0 ≡ 0 → ⊥) → Passing (newestFirst n es) es start (grown r (getD es i noEdge .left) (getD es i noEdge .right) i) (i + 1)
-  reach-left z k = reach-by (forthBy es i) (hops-by es i n h .0) (newestFirst-length i es) (ends-here .0) (ends-here .1) z (omega arith)
+  reach-left z k = reach-by (forthBy es i) (hops-by es i n h .0) (lastFirst-length noEdge i es) (ends-here .0) (ends-here .1) z (omega arith)
 
+  -- its right end is reached
   pub reach-right : (getD (r .rank) (getD es i noEdge .left) 0 ≡ 0 → ⊥) → getD (r .rank) (getD es i noEdge .right) 0 ≡ 0 → Passing (newestFirst n es) es start (grown r (getD es i noEdge .right) (getD es i noEdge .left) i) (i + 1)
-  reach-right k z = reach-by (backBy es i) (hops-by es i n h .1) (newestFirst-length i es) (ends-here .1) (ends-here .0) z (omega arith)
+  reach-right k z = reach-by (backBy es i) (hops-by es i n h .1) (lastFirst-length noEdge i es) (ends-here .1) (ends-here .0) z (omega arith)
 
   -- where both are reached or neither, nothing changes
   pub reach-none : (0 < getD (r .rank) (getD es i noEdge .left) 0 → 0 < getD (r .rank) (getD es i noEdge .right) 0) → (0 < getD (r .rank) (getD es i noEdge .right) 0 → 0 < getD (r .rank) (getD es i noEdge .left) 0) → Passing (newestFirst n es) es start r (i + 1)

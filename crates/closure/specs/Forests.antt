@@ -1,10 +1,11 @@
--- What holds of every edge of a graph, over the edges older than it.
+-- Graphs without a cycle, and the form of every invariant of a run.
 use mathlib.Core.Bool.{not}
 use mathlib.Core.List.{[], _∷_}
 use Prim.Native.Nat.{ℕ, _<_}
 use lib.Dec.{T}
 use Rattle.closure.specs.Graph.{Edge, Graph, joined}
 
+-- every edge has the property, over the edges older than it
 abbrev pub Each : (Graph → Edge → Type 0) → Graph → Type 0
 Each P [] = Unit {0}
 Each P (e ∷ G) = P G e × Each P G

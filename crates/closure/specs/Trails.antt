@@ -1,11 +1,12 @@
 -- The path between two joined terms as the code hands it out.
-use mathlib.Core.List.{List, [], _∷_, map}
+use mathlib.Core.List.{List, map}
 use mathlib.Core.Path.{_≡_}
-use Prim.Native.Nat.{ℕ, zero, suc, _+_, _≤_}
+use Prim.Native.Nat.{ℕ, _+_, _≤_}
 use lib.Dec.{T}
-use lib.ListN.{length, getD, take}
+use lib.ListN.{length, take}
 use Rattle.closure.specs.Graph.{Graph, joined, path, vertices}
 use Rattle.closure.specs.Forests.{Forest}
+use Rattle.closure.specs.Layout.{lastFirst}
 use Rattle.closure.specs.Rooting.{number, RootedBy}
 use Rattle.closure.specs.declared.paths.Trail.{Trail}
 
@@ -22,7 +23,6 @@ pub record TrailOf (G : Graph) (u v : ℕ) (r : Trail) : Type 0 where
   pub stops : take (r .hops + 1) (r .stops) ≡ vertices u (path G u v)
   pub edges : take (r .hops) (r .edges) ≡ map number (path G u v)
 
--- the first n of a list, the last of them first
-unfoldable pub lastFirst : ℕ → List ℕ → List ℕ
-lastFirst zero l = []
-lastFirst (suc n) l = getD l n 0 ∷ lastFirst n l
+-- the first n numbers of a list, the last of them first
+abbrev pub fromLast : ℕ → List ℕ → List ℕ
+fromLast n l = lastFirst n l 0

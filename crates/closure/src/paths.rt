@@ -5,7 +5,7 @@ ghost use mathlib.Core.List.{_++_};
 ghost use Prim.Native.Nat.{_+_, _≤_, _<_};
 ghost use lib.ListN.{take};
 ghost use Rattle.closure.specs.Graph.{Graph};
-ghost use Rattle.closure.specs.Trails.{Joining, TrailOf, lastFirst};
+ghost use Rattle.closure.specs.Trails.{Joining, TrailOf, fromLast};
 
 // The vertices that the path stands on, and the edges between them.
 pub struct Trail {
@@ -18,7 +18,7 @@ impl Trail {
     // This trail, and from its end the other's stops and edges, the last of them first.
     fn and_back(mut self, other: Trail) -> Trail
         requires { ⌜ self .hops + other .hops ≤ 510 ⌝ }
-        ensures { λ r. ⌜ (r .hops ≡ self .hops + other .hops) × (take (r .hops + 1) (r .stops) ≡ take (self .hops + 1) (self .stops) ++ lastFirst (other .hops) (other .stops)) × (take (r .hops) (r .edges) ≡ take (self .hops) (self .edges) ++ lastFirst (other .hops) (other .edges)) ⌝ }
+        ensures { λ r. ⌜ (r .hops ≡ self .hops + other .hops) × (take (r .hops + 1) (r .stops) ≡ take (self .hops + 1) (self .stops) ++ fromLast (other .hops) (other .stops)) × (take (r .hops) (r .edges) ≡ take (self .hops) (self .edges) ++ fromLast (other .hops) (other .edges)) ⌝ }
     {
         let mut k = self.hops;
         let mut i = other.hops;

@@ -4,7 +4,7 @@ use mathlib.Core.Path.{_≡_, sym, subst}
 use Prim.Native.Nat.{ℕ, _+_, _≤_, _<_, _-_}
 use lib.ListN.{getD}
 use Rattle.closure.specs.Forests.{EndsBelow}
-use Rattle.closure.specs.Layout.{noEdge, newestFirst, edgesOf}
+use Rattle.closure.specs.Layout.{noEdge, lastFirst, newestFirst, edgesOf}
 use Rattle.closure.specs.Rooting.{Closed}
 use Rattle.closure.specs.declared.rooting.Rooting.{Rooting}
 use Rattle.closure.proofs.Rooted.{Passing, reached-within, ends-here, reach-left, reach-right, reach-none}
@@ -17,11 +17,12 @@ Inv-loop graph r₀ count i₀ r i = (i ≤ count) × Passing (newestFirst (grap
 abbrev μ-loop : tie.MeasureT-loop
 μ-loop graph r₀ count i₀ r i = count - i
 
--- both ends of the edge are vertices
+-- both ends of every edge are vertices
 ends : (c : tie.In-loop Inv-loop μ-loop) → EndsBelow 511 (newestFirst (c .before .before .args .t1 .count) (c .before .before .args .t1 .edges))
 unfolding edgesOf
 ends c = c .before .before .pre .1
 
+-- the next edge's
 here : (c : tie.In-loop Inv-loop μ-loop) → (getD (c .before .before .args .t1 .edges) (c .before .loop .i) noEdge .left < 511) × (getD (c .before .before .args .t1 .edges) (c .before .loop .i) noEdge .right < 511)
 here c = ends-here (c .before .before .args .t1 .edges) (c .before .before .args .t1 .count) (c .before .loop .inv .1) (c .loop-test .taken) (ends c)
 
@@ -30,7 +31,7 @@ low : (c : tie.In-loop Inv-loop μ-loop) (v : ℕ) → v < 511 → getD (c .befo
 low c v h = omega (arith, c .before .loop .inv .1 .growing .bounded v h, reached-within (c .before .loop .inv .1 .growing))
 
 loop-holds : tie.Need-loop-holds Inv-loop μ-loop
-unfolding edgesOf newestFirst
+unfolding edgesOf lastFirst
 loop-holds c = (omega arith, record { growing = c .pre .2; more = omega arith; closed = λ e h k. elim k [ ] })
 
 mul-e : tie.Need-mul-e Inv-loop μ-loop
