@@ -21,3 +21,6 @@ pub mod OwnRun
 pub mod Model
 pub mod Classes
 pub mod AllRuns
+pub mod Numbered
+pub mod Rooted
+pub mod Climbs

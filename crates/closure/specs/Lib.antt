@@ -3,3 +3,7 @@ pub mod Graph
 pub mod Walks
 pub mod Steps
 pub mod OwnRun
+pub mod Layout
+pub mod Forests
+pub mod Rooting
+pub mod Trails

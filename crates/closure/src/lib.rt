@@ -1,5 +1,9 @@
 // The closure layer of document 01: the graph, and the library's own run of closure steps over the tables read.
 
+pub mod graph;
+pub mod paths;
+pub mod rooting;
+
 use tables::Side;
 
 // Where an edge comes from.
