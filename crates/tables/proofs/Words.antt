@@ -307,3 +307,13 @@ pub mem-pairsBelow : (n : ℕ) (p : Pair) → p .left < p .right → p .right < 
 unfolding pairsBelow
 mem-pairsBelow n p h k =
     mem-flatMap (λ s. map (pair s) (keep (ltb s) (below n))) (mem-below n (p .left) (omega arith)) (Memᴰ·map (pair (p .left)) (mem-keep (ltb (p .left)) (mem-below n (p .right) k) (lt→ltb (p .left) (p .right) h)))
+
+-- a number is below another, or it is not
+pub below-or-not : (k n : ℕ) → (k < n) ⊎ (n ≤ k)
+below-or-not k n = by-test (ltb k n) (λ e. inl (ltb→lt k n (passes (ltb k n) e))) (λ e. inr (lib.Dec.nltb→le k n (fails (ltb k n) e)))
+
+-- tests that agree along a map: every member passes the one where every image passes the other
+pub every-map {ℓ κ} : {A : Type ℓ} {B : Type κ} (p : A → Bool) (q : B → Bool) (f : A → B) (xs : List A) → ((x : A) → List·Memᴰ x xs → p x ≡ q (f x)) → every p xs ≡ every q (map f xs)
+unfolding every
+every-map p q f [] h = refl
+every-map p q f (x ∷ xs) h = ap₂ (λ (a b : Bool). a && b) (h x (List·Memᴰ·head refl)) (every-map p q f xs (λ y m. h y (List·Memᴰ·tail m)))
