@@ -1,5 +1,6 @@
 -- Theorems about the definitions of specs/.
 pub mod Joined
+pub mod LabelArray
 pub mod Walks
 pub mod Invariant
 pub mod OnePath

@@ -3,3 +3,4 @@ pub mod Graph
 pub mod Walks
 pub mod Steps
 pub mod OwnRun
+pub mod Shown
