@@ -1,6 +1,7 @@
 -- Theorems about the definitions of specs/.
 pub mod Joined
 pub mod LabelArray
+pub mod Showing
 pub mod Walks
 pub mod Invariant
 pub mod OnePath
@@ -8,3 +9,4 @@ pub mod Count
 pub mod Model
 pub mod Classes
 pub mod Parents
+pub mod Numbered

@@ -4,3 +4,4 @@ pub mod Walks
 pub mod Steps
 pub mod OwnRun
 pub mod Shown
+pub mod Layout

@@ -2,12 +2,9 @@
 
 use tables::Side;
 
-// pub mod congruence;
-// pub mod graph;
+pub mod graph;
 pub mod labels;
-// pub mod run;
-// pub mod search;
-// pub mod state;
+pub mod state;
 
 // Where an edge comes from.
 pub enum EdgeKind {

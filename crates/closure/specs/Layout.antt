@@ -1,0 +1,20 @@
+-- How the code lays a graph out: its edges in the order of adding, in the first places of an array.
+use mathlib.Core.List.{List, [], _∷_}
+use Prim.Native.Nat.{ℕ, zero, suc}
+use lib.ListN.{getD}
+use Rattle.tables.specs.declared.Side.the-variants.{A}
+use Rattle.closure.specs.Graph.{Edge, basic, Graph}
+
+-- the edge that stands in the places not in use
+abbrev pub noEdge : Edge
+noEdge = record { left = 0; right = 0; colour = A; kind = basic }
+
+-- the first n edges of an array, the newest first: edge number i stands over the first i
+unfoldable pub newestFirst : ℕ → List Edge → Graph
+newestFirst zero es = []
+newestFirst (suc i) es = getD es i noEdge ∷ newestFirst i es
+
+-- the edges of the graph that the code keeps
+unfoldable pub edgesOf : Rattle.closure.specs.declared.graph.Graph.Graph → Graph
+unfolding newestFirst
+edgesOf g = newestFirst (g .count) (g .edges)
