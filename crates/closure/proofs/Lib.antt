@@ -1,7 +1,9 @@
 -- Theorems about the definitions of specs/.
 pub mod Joined
+pub mod Arrays
 pub mod LabelArray
 pub mod Showing
+pub mod Agreeing
 pub mod Walks
 pub mod Invariant
 pub mod OnePath

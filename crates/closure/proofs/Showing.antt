@@ -27,6 +27,7 @@ use Rattle.closure.specs.Shown.{labelsOf, padded, rowFor, column, Shows,
 use Rattle.closure.specs.declared.Row.{Row}
 use Rattle.closure.specs.declared.graph.Graph.{Graph as Kept}
 use Rattle.closure.specs.declared.state.State.{State as Arrays}
+use Rattle.closure.proofs.Arrays.{filled-next}
 use Rattle.closure.proofs.LabelArray.{label-at, labels-edge}
 
 -- the arrays with another graph and other labels
@@ -69,16 +70,6 @@ module _ (ts : List Term) (ls : List Literal) (st : State) (s : Arrays) (h : Sho
       }
 
 -- ---- one term more
-
--- a filled array with one place more
-pub filled-next {ℓ} : {X : Type ℓ} (size : ℕ) (filler : X) (n : ℕ) (f g : ℕ → X) (x : X) → n < size → ((k : ℕ) → k < n → f k ≡ g k) → x ≡ g n → set (filled size filler n f) n x ≡ filled size filler (n + 1) g
-unfolding filled
-filled-next {X = X} size filler n f g x h same e =
-    let fits : min n size ≡ n = omega arith in
-    let fits-more : n + 1 ≡ min (n + 1) size = omega arith in
-    ap₂ (λ (xs : List X) (y : X). set xs n y) (filled-agree size filler n f g same ∙ ap (λ (k : ℕ). map g (below k) ++ replicate (size - n) filler) fits) e ∙
-    written-more size filler g n h ∙
-    ap (λ (k : ℕ). map g (below k) ++ replicate (size - (n + 1)) filler) fits-more
 
 -- a shared term has both colours
 pub shared-number : (ts : List Term) (ls : List Literal) (table : List Term) (v : ℕ) → T (shared ts ls table v) → colourNumber ts ls table v ≡ 3

@@ -5,3 +5,4 @@ pub mod Steps
 pub mod OwnRun
 pub mod Shown
 pub mod Layout
+pub mod Keys

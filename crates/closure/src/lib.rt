@@ -2,6 +2,7 @@
 
 use tables::Side;
 
+pub mod congruence;
 pub mod graph;
 pub mod labels;
 pub mod state;
