@@ -4,6 +4,9 @@ pub mod Arrays
 pub mod LabelArray
 pub mod Showing
 pub mod Agreeing
+pub mod FirstPair
+pub mod Candidates
+pub mod PairTest
 pub mod Walks
 pub mod Invariant
 pub mod OnePath

@@ -7,8 +7,8 @@ use native.Mathlib.Numerals.{add-one}
 use native.Mathlib.Omega.{arith}
 use borrow.Author.Tests.{le-ltb, lt-ltb}
 use lib.Dec.{T, eqb, ltb}
-use lib.ListN.{length, getD, set, replicate, length-append, List·getD-append}
-use lib.Seq.{getD-at}
+use lib.ListN.{length, getD, take, set, replicate, length-append, List·getD-append}
+use lib.Seq.{getD-at, take-append-seam}
 use Rattle.tables.specs.Words.{below, every}
 use Rattle.tables.specs.Terms.{Term, noTerm, termAt, LowerArguments, symbols}
 use Rattle.tables.specs.LiteralTable.{Literal}
@@ -18,12 +18,12 @@ use Rattle.tables.specs.Colours.{inUse, occursIn, colourable, shared}
 use Rattle.tables.specs.Read.{filled, colourNumber}
 use Rattle.tables.proofs.Words.{and-left, and-right, passed}
 use Rattle.tables.proofs.Terms.{symbols-append}
-use Rattle.tables.proofs.Records.{written, written-more}
-use Rattle.tables.proofs.Filled.{filled-agree}
+use Rattle.tables.proofs.Filled.{filled-at}
 use Rattle.closure.specs.Graph.{Edge, EdgeKind, Graph, label}
 use Rattle.closure.specs.Steps.{State, tableOf, vertex, withEdge}
 use Rattle.closure.specs.Layout.{edgesOf}
 use Rattle.closure.specs.Shown.{labelsOf, padded, rowFor, column, Shows, withTerm}
+use Rattle.closure.specs.Keys.{noRow}
 use Rattle.closure.specs.declared.Row.{Row}
 use Rattle.closure.specs.declared.graph.Graph.{Graph as Kept}
 use Rattle.closure.specs.declared.state.State.{State as Arrays}
@@ -43,6 +43,38 @@ module _ (ts : List Term) (ls : List Literal) (st : State) (s : Arrays) (h : Sho
   -- the label of a term stands in its place
   pub shown-label : (v : ℕ) → v < 511 → getD (s .labels) v 0 ≡ label (st .graph) v
   shown-label v l = ap (λ (xs : List ℕ). getD xs v 0) (h .labels) ∙ label-at (st .graph) v 0 l
+
+  -- so does what else is said of a term
+  pub shown-symbol : (v : ℕ) → v < length (tableOf ts st) → getD (s .symbols) v 0 ≡ termAt (tableOf ts st) v .symbol
+  shown-symbol v l = ap (λ (xs : List ℕ). getD xs v 0) (h .symbols) ∙ filled-at (λ k. termAt (tableOf ts st) k .symbol) 511 0 (length (tableOf ts st)) v 0 l (h .within)
+
+  pub shown-arity : (v : ℕ) → v < length (tableOf ts st) → getD (s .arities) v 0 ≡ length (termAt (tableOf ts st) v .arguments)
+  shown-arity v l = ap (λ (xs : List ℕ). getD xs v 0) (h .arities) ∙ filled-at (λ k. length (termAt (tableOf ts st) k .arguments)) 511 0 (length (tableOf ts st)) v 0 l (h .within)
+
+  pub shown-row : (v : ℕ) → v < length (tableOf ts st) → getD (s .rows) v noRow ≡ rowFor (termAt (tableOf ts st) v .arguments)
+  shown-row v l = ap (λ (xs : List Row). getD xs v noRow) (h .rows) ∙ filled-at (λ k. rowFor (termAt (tableOf ts st) k .arguments)) 511 (rowFor []) (length (tableOf ts st)) v noRow l (h .within)
+
+  pub shown-colour : (v : ℕ) → v < length (tableOf ts st) → getD (s .colours) v 0 ≡ colourNumber ts ls (tableOf ts st) v
+  shown-colour v l = ap (λ (xs : List ℕ). getD xs v 0) (h .colours) ∙ filled-at (colourNumber ts ls (tableOf ts st)) 511 0 (length (tableOf ts st)) v 0 l (h .within)
+
+  pub shown-vertex : (v : ℕ) → v < length (tableOf ts st) → getD (s .vertices) v false ≡ vertex ts ls st v
+  shown-vertex v l = ap (λ (xs : List Bool). getD xs v false) (h .vertices) ∙ filled-at (vertex ts ls st) 511 false (length (tableOf ts st)) v false l (h .within)
+
+  -- a given term is a term of the table
+  pub given-within : (v : ℕ) → v < length ts → v < length (tableOf ts st)
+  given-within v l = omega (arith, length-append ts (st .added))
+
+  -- a given term is a vertex where it is in use
+  pub shown-in-use : (v : ℕ) → v < length ts → getD (s .vertices) v false ≡ inUse ts ls v
+  unfolding vertex
+  shown-in-use v l = shown-vertex v (given-within v l) ∙ ap (λ (b : Bool). cond b (inUse ts ls v) (ltb v (length (tableOf ts st)))) (lt-ltb v (length ts) l)
+
+  -- the used fields of a term's row are its arguments
+  pub shown-arguments : (v : ℕ) → v < length (tableOf ts st) → (n : ℕ) → n ≡ length (termAt (tableOf ts st) v .arguments) → take n (getD (s .rows) v noRow .args) ≡ termAt (tableOf ts st) v .arguments
+  unfolding padded
+  shown-arguments v l n e =
+      let xs = termAt (tableOf ts st) v .arguments in
+      ap₂ (λ (k : ℕ) (r : Row). take k (r .args)) e (shown-row v l) ∙ take-append-seam xs (replicate (4 - length xs) 0)
 
   -- the labels as the rule changes them are those of one edge more
   pub shown-labels : (e : Edge) → e .left < 511 → e .right < 511 → map (relabelling (s .labels) (e .left) (e .right)) (s .labels) ≡ labelsOf (e ∷ st .graph)
