@@ -7,6 +7,7 @@ pub mod Agreeing
 pub mod FirstPair
 pub mod Candidates
 pub mod PairTest
+pub mod Beginning
 pub mod Walks
 pub mod Invariant
 pub mod OnePath

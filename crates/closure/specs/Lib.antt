@@ -6,3 +6,4 @@ pub mod OwnRun
 pub mod Shown
 pub mod Layout
 pub mod Keys
+pub mod Opening

@@ -5,6 +5,7 @@ use tables::Side;
 pub mod congruence;
 pub mod graph;
 pub mod labels;
+pub mod run;
 pub mod search;
 pub mod state;
 
