@@ -8,6 +8,7 @@ pub mod FirstPair
 pub mod Candidates
 pub mod PairTest
 pub mod Beginning
+pub mod BasicSteps
 pub mod Walks
 pub mod Invariant
 pub mod OnePath
