@@ -3,7 +3,10 @@ pub mod Graph
 pub mod Walks
 pub mod Steps
 pub mod OwnRun
+pub mod Shown
 pub mod Layout
 pub mod Forests
 pub mod Rooting
 pub mod Trails
+pub mod Keys
+pub mod Opening

@@ -1,0 +1,79 @@
+// "The library's own run".
+
+use super::EdgeKind;
+use super::Row;
+use super::graph::Graph;
+use super::labels;
+use super::state::State;
+use tables::Side;
+use tables::Tables;
+ghost use mathlib.Core.Bool.{cond};
+ghost use mathlib.Core.Path.{_≡_};
+ghost use lib.Dec.{eqb};
+ghost use Rattle.tables.specs.TermTable.{termsOf};
+ghost use Rattle.tables.specs.LiteralTable.{literalsOf};
+ghost use Rattle.tables.specs.Read.{argumentRows};
+ghost use Rattle.closure.specs.Steps.{begin as noSteps};
+ghost use Rattle.closure.specs.OwnRun.{basicSteps};
+ghost use Rattle.closure.specs.Shown.{Shows};
+ghost use Rattle.closure.specs.Opening.{ReadFrom, Opens};
+
+// The state before the first step: the given terms, and no edge.
+pub fn begin(t: Tables, given: [[u16; 4]; 256]) -> State
+    requires { ⌜ ReadFrom t ⌝ }
+    ensures { λ r. ⌜ ((from : ReadFrom t) → given ≡ argumentRows (from .terms) → Opens from r) ⌝ }
+{
+    let graph = Graph::empty();
+    let labels = labels::own_labels();
+    let none = Row { args: [0u16; 4] };
+    let count = t.terms;
+    let mut st = State {
+        terms: count,
+        symbols: [0u16; 511],
+        arities: [0u8; 511],
+        rows: [none; 511],
+        colours: [0u8; 511],
+        vertices: [false; 511],
+        graph,
+        labels,
+    };
+    let mut i = 0;
+    while i < count {
+        st.symbols[i] = t.symbols[i];
+        st.arities[i] = t.arities[i];
+        let args = given[i];
+        st.rows[i] = Row { args };
+        st.colours[i] = t.colours[i];
+        st.vertices[i] = t.used[i];
+        i += 1;
+    }
+    st
+}
+
+// A record's side byte: 1 = A, 2 = B.
+fn side_of(b: u8) -> Side
+    ensures { λ r. ⌜ r ≡ cond (eqb b 1) Side.A Side.B ⌝ }
+{
+    if b == 1 { Side::A } else { Side::B }
+}
+
+// "all basic steps by record number, skipping joined sides"
+pub fn basic_steps(t: Tables, start: State) -> State
+    requires { ⌜ ((from : ReadFrom t) × Opens from start) ⌝ }
+    ensures { λ r. ⌜ ((from : ReadFrom t) → Opens from start → Shows (termsOf (from .terms)) (literalsOf (from .literals)) (basicSteps (literalsOf (from .literals)) noSteps) r) ⌝ }
+{
+    let count = t.literals;
+    let mut st = start;
+    let mut i = 0;
+    while i < count {
+        let left = t.lefts[i];
+        let right = t.rights[i];
+        let labels = st.labels;
+        if (t.kinds[i] == 1) & (labels[left as usize] != labels[right as usize]) {
+            let side = side_of(t.sides[i]);
+            st = st.with_edge(left, right, side, EdgeKind::Basic);
+        }
+        i += 1;
+    }
+    st
+}
