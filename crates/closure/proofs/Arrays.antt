@@ -8,7 +8,7 @@ use lib.ListN.{length, getD, take, drop, set, replicate, length-map, length-take
 use lib.Seq.{take-suc, take-length, drop-cons, drop-length, set-at, set-getD, getD-at}
 use Rattle.tables.specs.Words.{below}
 use Rattle.tables.specs.Read.{filled}
-use Rattle.tables.proofs.Records.{written, written-more, Filling, filling-more}
+use Rattle.tables.proofs.Records.{written-more, Filling, filling-more}
 use Rattle.tables.proofs.Filled.{length-map-below, filled-agree}
 
 -- ---- an array that is changed in place

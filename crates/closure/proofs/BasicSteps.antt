@@ -1,32 +1,31 @@
 -- The basic steps, one record after the other: what the columns say of a record, one turn more, and a bound on the edges.
 use mathlib.Core.Bool.{Bool, true, false, cond, not, _&&_}
-use mathlib.Core.List.{List, [], _∷_, _++_, map, List·Memᴰ, List·Memᴰ·head, List·Memᴰ·tail, Memᴰ·append-left}
+use mathlib.Core.List.{List, [], _∷_, _++_, List·Memᴰ, List·Memᴰ·head, List·Memᴰ·tail, Memᴰ·append-left}
 use mathlib.Core.Path.{_≡_, refl, sym, ap, ap₂, subst, _∙_}
-use Prim.Native.Nat.{ℕ, suc, _+_, _≤_, _<_}
+use Prim.Native.Nat.{ℕ, _+_, _≤_, _<_}
 use native.Mathlib.Numerals.{add-one}
 use native.Mathlib.Omega.{arith}
-use lib.Dec.{T, eqb}
+use lib.Dec.{eqb}
 use lib.ListN.{length, getD, take, drop, take-append-drop}
 use lib.Seq.{take-suc, take-all}
 use Rattle.tables.specs.Words.{below}
 use Rattle.tables.specs.Bytes.{byteAt, wordAt}
-use Rattle.tables.specs.Terms.{Term}
 use Rattle.tables.specs.TermTable.{termCount, termsOf}
-use Rattle.tables.specs.LiteralTable.{Kind, equal, different, isEqual, Literal, literalCount, literalRecord, literalOf, literalsOf}
+use Rattle.tables.specs.LiteralTable.{equal, different, isEqual, Literal, literalCount, literalRecord, literalOf, literalsOf}
 use Rattle.tables.specs.declared.Side.{Side}
 use Rattle.tables.specs.declared.Side.the-variants.{A, B}
 use Rattle.tables.specs.declared.Tables.{Tables}
 use Rattle.tables.specs.Read.{filled, soundTables}
-use Rattle.tables.proofs.Words.{and-right, passes, length-below, mem-below, below-mem}
+use Rattle.tables.proofs.Words.{and-right, passes, length-below, mem-below}
 use Rattle.tables.proofs.Filled.{filled-at, length-map-below, map-below-at}
-use Rattle.tables.proofs.Sound.{SoundTables, SoundLiteral, sound-literal, sides-within, length-termsOf}
-use Rattle.closure.specs.Graph.{Edge, EdgeKind, basic, Graph, label, joined}
-use Rattle.closure.specs.Steps.{State, begin, tableOf, withEdge}
+use Rattle.tables.proofs.Sound.{sound-literal, sides-within, length-termsOf}
+use Rattle.closure.specs.Graph.{basic, Graph, label, joined}
+use Rattle.closure.specs.Steps.{State, begin, withEdge}
 use Rattle.closure.specs.OwnRun.{basicSteps}
 use Rattle.closure.specs.Shown.{Shows}
 use Rattle.closure.specs.Opening.{ReadFrom, Opens}
 use Rattle.closure.specs.declared.state.State.{State as Arrays}
-use Rattle.closure.proofs.Invariant.{Each, Forest}
+use Rattle.closure.proofs.Invariant.{Forest}
 use Rattle.closure.proofs.Count.{EndsIn, once-below, fewer-edges}
 use Rattle.closure.proofs.Showing.{shown-label}
 use Rattle.closure.proofs.Beginning.{sound-tables, read-sound}

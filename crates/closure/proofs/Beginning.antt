@@ -1,12 +1,12 @@
 -- The arrays filled from the tables show the state before the first step.
-use mathlib.Core.Bool.{Bool, true, false, cond, not, _&&_, _||_}
-use mathlib.Core.List.{List, [], _∷_, _++_, map, append-nil}
+use mathlib.Core.Bool.{Bool, false, cond, not, _||_}
+use mathlib.Core.List.{List, [], _∷_, _++_, append-nil}
 use mathlib.Core.Logic.{⊎-elim}
-use mathlib.Core.Path.{_≡_, refl, sym, ap, ap₂, subst, _∙_}
-use Prim.Native.Nat.{ℕ, suc, _+_, _-_, _≤_, _<_, min}
+use mathlib.Core.Path.{_≡_, sym, ap, _∙_}
+use Prim.Native.Nat.{ℕ, _+_, _-_, _≤_, _<_}
 use native.Mathlib.Omega.{arith}
 use borrow.Author.Tests.{lt-ltb}
-use lib.Dec.{T, eqb, ltb, leb, eqb→eq, le→leb, not-T}
+use lib.Dec.{eqb, ltb, leb, eqb→eq, le→leb}
 use lib.ListN.{length, getD, take, replicate, length-append, length-take, length-replicate, getD-replicate, List·getD-append}
 use lib.Seq.{ext-getD, getD-take, getD-append-add}
 use Rattle.tables.specs.Words.{someBelow}
@@ -14,20 +14,19 @@ use Rattle.tables.specs.Terms.{Term, termAt}
 use Rattle.tables.specs.TermTable.{termCount, termRecord, symbolField, arityField, argumentField, rowOf, arityWrong, spareWrong, notLower, unusedNotZero, breaksLayout, termOf, termsOf}
 use Rattle.tables.specs.LiteralTable.{literalsOf}
 use Rattle.tables.specs.Colours.{inUse}
-use Rattle.tables.specs.Checks.{checked, numberOf}
+use Rattle.tables.specs.Checks.{numberOf}
 use Rattle.tables.specs.Read.{filled, colourNumber, argumentRows, soundTables, refusedTables, tablesRead}
 use Rattle.tables.specs.declared.Check.{Check}
 use Rattle.tables.specs.declared.Check.the-variants.{Sound}
 use Rattle.tables.specs.declared.Tables.{Tables}
 use Rattle.tables.proofs.Words.{or-right, and-both, some-someBelow, by-test, passes, fails, below-or-not}
-use Rattle.tables.proofs.Records.{Filling, filling-none, filling-more, filling-all}
+use Rattle.tables.proofs.Records.{Filling, filling-all}
 use Rattle.tables.proofs.Filled.{filled-at, filled-agree}
 use Rattle.tables.proofs.Sound.{SoundTables, sound, length-termsOf, termAt-termsOf, row-at, length-row, arity-small}
 use Rattle.closure.specs.Steps.{begin, tableOf, vertex}
 use Rattle.closure.specs.Layout.{edgesOf}
-use Rattle.closure.specs.Shown.{labelsOf, padded, rowFor, column, Shows}
+use Rattle.closure.specs.Shown.{labelsOf, padded, rowFor, column}
 use Rattle.closure.specs.Opening.{ReadFrom, Opens}
-use Rattle.closure.specs.declared.Row.{Row}
 use Rattle.closure.specs.declared.state.State.{State as Arrays}
 
 -- ---- tables that no row refuses

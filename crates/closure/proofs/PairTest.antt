@@ -1,35 +1,33 @@
 -- The test that the search makes of a pair passes where a derived step can be taken on it: so it finds the first such pair.
 use mathlib.Core.Bool.{Bool, true, false, cond, not, _&&_}
-use mathlib.Core.List.{List, [], _∷_, _++_, map, map-append, List·Memᴰ}
+use mathlib.Core.List.{List, _++_, map, map-append, List·Memᴰ}
 use mathlib.Core.Logic.{_⊎_, inl, inr, ⊎-elim}
 use mathlib.Core.Option.{some, none}
-use mathlib.Core.Path.{_≡_, refl, sym, ap, ap₂, subst, _∙_}
-use Prim.Native.Nat.{ℕ, suc, _+_, _*_, _-_, _≤_, _<_}
+use mathlib.Core.Path.{_≡_, sym, ap, ap₂, subst, _∙_}
+use Prim.Native.Nat.{ℕ, _+_, _-_, _≤_, _<_}
 use native.Mathlib.Omega.{arith}
 use borrow.Author.Tests.{eq-eqb}
-use lib.Dec.{T, eqb, eqb→eq, eqb-refl, T-not, not-T}
+use lib.Dec.{T, eqb, eqb→eq}
 use lib.ListN.{length, getD, take, replicate, length-map, List·getD-map, List·getD-append}
-use Rattle.tables.specs.Words.{Pair, pair, firstOf, pairsBelow}
+use Rattle.tables.specs.Words.{pair}
 use Rattle.tables.specs.Terms.{Term, termAt, noTerm}
 use Rattle.tables.specs.LiteralTable.{Literal}
 use Rattle.tables.specs.Colours.{inUse}
-use Rattle.tables.specs.Read.{filled}
-use Rattle.tables.proofs.Words.{and-left, and-right, and-both, passed, passes, failed, fails, by-test, below-or-is, below-or-not, mem-getD}
+use Rattle.tables.proofs.Words.{and-left, and-right, and-both, passed, passes, fails, by-test, below-or-is, below-or-not, mem-getD}
 use Rattle.tables.proofs.Terms.{map-agree}
 use Rattle.tables.proofs.Filled.{filled-at}
 use Rattle.closure.specs.Graph.{Graph, label, joined, joinedPairwise}
 use Rattle.closure.specs.Steps.{State, tableOf, congruent}
 use Rattle.closure.specs.OwnRun.{derivable, firstPair}
-use Rattle.closure.specs.Shown.{labelsOf, padded, rowFor, Shows}
-use Rattle.closure.specs.Keys.{noRow, FieldsWithin, RowsWithin, fieldLabel, keyOf, keysOf, candidate, Orderly, OneArity}
+use Rattle.closure.specs.Shown.{labelsOf, padded, Shows}
+use Rattle.closure.specs.Keys.{noRow, fieldLabel, keyOf, keysOf, candidate, Orderly, OneArity}
 use Rattle.closure.specs.declared.Row.{Row}
 use Rattle.closure.specs.declared.state.State.{State as Arrays}
-use Rattle.closure.proofs.Joined.{joined-label, label-joined}
 use Rattle.closure.proofs.LabelArray.{label-at}
 use Rattle.closure.proofs.Showing.{shown-label, shown-symbol, shown-arity, shown-row, shown-in-use, shown-arguments, given-within}
 use Rattle.closure.proofs.Agreeing.{joined-labels}
 use Rattle.closure.proofs.FirstPair.{Before, no-pair, first-pair}
-use Rattle.closure.proofs.Candidates.{no-candidate, other-key, is-candidate, candidate-parts}
+use Rattle.closure.proofs.Candidates.{is-candidate, candidate-parts}
 
 -- ---- passing over pairs in their order
 

@@ -1,15 +1,15 @@
 -- The arrays go on showing the state: with one edge more, and with one term more.
-use mathlib.Core.Bool.{Bool, true, false, cond, _&&_}
-use mathlib.Core.List.{List, [], _∷_, _++_, map, map-append, append-assoc, append-nil}
-use mathlib.Core.Path.{_≡_, refl, sym, ap, ap₂, subst, _∙_}
-use Prim.Native.Nat.{ℕ, suc, _+_, _-_, _≤_, _<_, min}
+use mathlib.Core.Bool.{Bool, true, false, cond}
+use mathlib.Core.List.{List, [], _∷_, _++_, map, append-assoc}
+use mathlib.Core.Path.{_≡_, refl, sym, ap, ap₂, _∙_}
+use Prim.Native.Nat.{ℕ, suc, _+_, _-_, _<_}
 use native.Mathlib.Numerals.{add-one}
 use native.Mathlib.Omega.{arith}
 use borrow.Author.Tests.{le-ltb, lt-ltb}
 use lib.Dec.{T, eqb, ltb}
 use lib.ListN.{length, getD, take, set, replicate, length-append, List·getD-append}
 use lib.Seq.{getD-at, take-append-seam}
-use Rattle.tables.specs.Words.{below, every}
+use Rattle.tables.specs.Words.{every}
 use Rattle.tables.specs.Terms.{Term, noTerm, termAt, LowerArguments, symbols}
 use Rattle.tables.specs.LiteralTable.{Literal}
 use Rattle.tables.specs.declared.Side.{Side}
