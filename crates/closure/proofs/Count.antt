@@ -1,15 +1,15 @@
 -- Each edge of a graph without a cycle makes one set of joined terms of two: so there are fewer edges than terms.
 use mathlib.Core.Bool.{Bool, true, false, cond, not}
-use mathlib.Core.List.{List, [], _∷_, List·Memᴰ, List·Memᴰ·head, List·Memᴰ·tail, List·Memᴰ·not-nil, List·Memᴰ·eq-of-singleton, Memᴰ·cast}
+use mathlib.Core.List.{List, [], _∷_, List·Memᴰ, List·Memᴰ·head, List·Memᴰ·tail, List·Memᴰ·not-nil, List·Memᴰ·cases-cons, List·Memᴰ·eq-of-singleton, Memᴰ·cast}
 use mathlib.Core.Logic.{⊎-elim}
 use mathlib.Core.Path.{_≡_, refl, sym, ap, subst, _∙_}
-use Prim.Native.Nat.{ℕ, zero, suc, _+_, _<_}
+use Prim.Native.Nat.{ℕ, zero, suc, _+_, _≤_, _<_}
 use native.Mathlib.Nat.{lt-irrefl}
 use native.Mathlib.Omega.{arith}
 use lib.Dec.{T, T-not, not-T, eqb, eqb→eq, eqb-refl}
 use lib.ListN.{length, getD}
-use Rattle.tables.specs.Words.{below, keep}
-use Rattle.tables.proofs.Words.{passed, failed, same-test, keep-mem, mem-keep, getD-mem, below-mem}
+use Rattle.tables.specs.Words.{below, keep, among}
+use Rattle.tables.proofs.Words.{passed, failed, same-test, keep-mem, mem-keep, getD-mem, length-below, below-mem, mem-below, among-mem, mem-among}
 use Rattle.closure.specs.Graph.{Edge, Graph, label, joined}
 use Rattle.closure.specs.Walks.{Once, nothing, new}
 use Rattle.closure.proofs.Joined.{joined-label, label-joined, joined-more, joined-ends, label-moved, label-kept, label-cases}
@@ -62,6 +62,28 @@ pub once-below : (n : ℕ) → Once (below n)
 unfolding below
 once-below zero = nothing
 once-below (suc n) = once-append (once-below n) (new (λ m. List·Memᴰ·not-nil m) nothing) (λ x m k. lt-irrefl n (subst (λ (y : ℕ). y < n) (List·Memᴰ·eq-of-singleton k) (below-mem n m)))
+
+-- a test keeps no more than there is
+keep-length : (p : ℕ → Bool) (xs : List ℕ) → length (keep p xs) ≤ length xs
+unfolding keep
+keep-length p [] = omega arith
+keep-length p (x ∷ xs) = go (p x) (keep-length p xs)
+  where
+    go : (b : Bool) → length (keep p xs) ≤ length xs → length (cond b (x ∷ keep p xs) (keep p xs)) ≤ length (x ∷ xs)
+    go true h = omega arith
+    go false h = omega arith
+
+-- such a list of numbers below n is no longer than n: each of its members is one of them
+pub once-length : (n : ℕ) {xs : List ℕ} → Once xs → ((x : ℕ) → List·Memᴰ x xs → x < n) → length xs ≤ n
+once-length n {xs} o h = omega (arith, members o h, keep-length (λ x. among x xs) (below n), length-below n)
+  where
+    members : {ys : List ℕ} → Once ys → ((y : ℕ) → List·Memᴰ y ys → y < n) → length ys ≤ length (keep (λ x. among x ys) (below n))
+    members nothing b = omega arith
+    members (new {x = y} {xs = ys} f q) b =
+        let one =
+        keep-one-less (λ x. among x (y ∷ ys)) (λ x. among x ys) (once-below n) (mem-below n y (b y (List·Memᴰ·head refl))) (mem-among (List·Memᴰ·head refl)) (not-T (among y ys) (λ k. f (among-mem y ys k)))
+        (λ x d. same-test (among x (y ∷ ys)) (among x ys) (λ k. ⊎-elim (λ e. absurd (d e)) (λ m. mem-among m) (List·Memᴰ·cases-cons (among-mem x (y ∷ ys) k))) (λ k. mem-among (List·Memᴰ·tail (among-mem x ys k)))) in
+        omega (arith, one, members q (λ z m. b z (List·Memᴰ·tail m)))
 
 -- ---- labels
 

@@ -1,6 +1,5 @@
 -- What holds of every edge of a graph, over the edges older than it: the form of every invariant of a run.
-use mathlib.Core.Bool.{not}
-use mathlib.Core.List.{List, [], _∷_, List·Memᴰ}
+use mathlib.Core.List.{List, List·Memᴰ}
 use mathlib.Core.Path.{_≡_}
 use Prim.Native.Nat.{ℕ, _<_}
 use lib.Dec.{T}
@@ -9,20 +8,9 @@ use Rattle.tables.specs.Terms.{Term, termAt, LowerArguments}
 use Rattle.tables.specs.LiteralTable.{Literal, equal}
 use Rattle.tables.specs.declared.Side.{Side}
 use Rattle.tables.specs.Colours.{edgeColourable}
-use Rattle.closure.specs.Graph.{Edge, EdgeKind, basic, derived, Graph, joined}
+use Rattle.closure.specs.Graph.{Edge, EdgeKind, basic, derived, Graph}
 use Rattle.closure.specs.Steps.{congruent, HasSides}
-
-abbrev pub Each : (Graph → Edge → Type 0) → Graph → Type 0
-Each P [] = Unit {0}
-Each P (e ∷ G) = P G e × Each P G
-
--- the edge joins two terms that the older ones do not join
-abbrev pub Unjoined : Graph → Edge → Type 0
-Unjoined G e = T (not (joined G (e .left) (e .right)))
-
--- a graph without a cycle
-abbrev pub Forest : Graph → Type 0
-Forest = Each Unjoined
+pub use Rattle.closure.specs.Forests.{Each, Unjoined, Forest}
 
 -- what stands behind an edge: an equality record of its colour with its sides, or the same symbol over joined arguments
 abbrev pub Behind : List Literal → List Term → Graph → Edge → EdgeKind → Type 0

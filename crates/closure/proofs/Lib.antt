@@ -17,3 +17,5 @@ pub mod Model
 pub mod Classes
 pub mod Parents
 pub mod Numbered
+pub mod Rooted
+pub mod Climbs

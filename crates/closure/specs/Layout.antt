@@ -9,12 +9,16 @@ use Rattle.closure.specs.Graph.{Edge, basic, Graph}
 abbrev pub noEdge : Edge
 noEdge = record { left = 0; right = 0; colour = A; kind = basic }
 
+-- the first n of a list, the last of them first; d stands for what is not there
+unfoldable pub lastFirst {ℓ} : {A : Type ℓ} → ℕ → List A → A → List A
+lastFirst zero l d = []
+lastFirst (suc i) l d = getD l i d ∷ lastFirst i l d
+
 -- the first n edges of an array, the newest first: edge number i stands over the first i
-unfoldable pub newestFirst : ℕ → List Edge → Graph
-newestFirst zero es = []
-newestFirst (suc i) es = getD es i noEdge ∷ newestFirst i es
+abbrev pub newestFirst : ℕ → List Edge → Graph
+newestFirst n es = lastFirst n es noEdge
 
 -- the edges of the graph that the code keeps
 unfoldable pub edgesOf : Rattle.closure.specs.declared.graph.Graph.Graph → Graph
-unfolding newestFirst
+unfolding lastFirst
 edgesOf g = newestFirst (g .count) (g .edges)

@@ -7,3 +7,6 @@ pub mod Shown
 pub mod Layout
 pub mod Keys
 pub mod Opening
+pub mod Forests
+pub mod Rooting
+pub mod Trails

@@ -4,10 +4,10 @@ use super::Edge;
 use super::EdgeKind;
 use tables::Side;
 ghost use mathlib.Core.Path.{_≡_};
-ghost use mathlib.Core.List.{List, [], _∷_};
+ghost use mathlib.Core.List.{[], _∷_};
 ghost use Prim.Native.Nat.{_+_, _<_};
-ghost use lib.ListN.{set};
-ghost use Rattle.closure.specs.Layout.{edgesOf};
+ghost use lib.ListN.{set, replicate};
+ghost use Rattle.closure.specs.Layout.{noEdge, edgesOf};
 
 pub struct Graph {
     pub edges: [Edge; 510],
@@ -17,7 +17,7 @@ pub struct Graph {
 impl Graph {
     // "The graph starts with the terms in use and no edge."
     pub fn empty() -> Graph
-        ensures { λ r. ⌜ (edgesOf r ≡ []) × (r .count ≡ 0) ⌝ }
+        ensures { λ r. ⌜ (edgesOf r ≡ []) × (r .count ≡ 0) × (r .edges ≡ replicate 510 noEdge) ⌝ }
     {
         let none = Edge {
             left: 0,
@@ -34,7 +34,7 @@ impl Graph {
     // The graph, handed back with one edge more.
     pub fn with_edge(mut self, e: Edge) -> Graph
         requires { ⌜ self .count < 510 ⌝ }
-        ensures { λ r. ⌜ (edgesOf r ≡ e ∷ edgesOf self) × (r .count ≡ self .count + 1) ⌝ }
+        ensures { λ r. ⌜ (edgesOf r ≡ e ∷ edgesOf self) × (r .count ≡ self .count + 1) × (r .edges ≡ set (self .edges) (self .count) e) ⌝ }
     {
         let at = self.count;
         self.edges[at] = e;

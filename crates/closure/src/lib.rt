@@ -5,6 +5,8 @@ use tables::Side;
 pub mod congruence;
 pub mod graph;
 pub mod labels;
+pub mod paths;
+pub mod rooting;
 pub mod run;
 pub mod search;
 pub mod state;

@@ -3,12 +3,10 @@ use borrow.Author.Needs.{needs}
 use native.Mathlib.Omega.{arith}
 use mathlib.Core.Path.{_≡_, refl}
 use lib.ListN.{length}
-use Rattle.closure.specs.Layout.{edgesOf}
-use Rattle.closure.proofs.Numbered.{struct-length, newestFirst-more}
+use Rattle.closure.specs.Layout.{noEdge, edgesOf}
+use Rattle.closure.proofs.Numbered.{struct-length, lastFirst-more}
 use Rattle.closure.proofs.graph.Graph.with_edge.Statement.{statement}
 use Rattle.closure.proofs.graph.Graph.with_edge.Tie as tie
-use Rattle.closure.proofs.graph.Graph.with_edge.Reads as reads
-use Rattle.closure.proofs.graph.Graph.with_edge.Lts as lts
 
 mul-e : tie.Need-mul-e
 mul-e c = search needs
@@ -21,7 +19,7 @@ add-self c = search needs
 
 returns : tie.Need-returns
 unfolding edgesOf
-returns c = let h : length (c .args .t1 .edges) ≡ 510 = search (needs, struct-length) in (newestFirst-more (c .args .t1 .count) (c .args .t1 .edges) (c .args .e) (omega arith), refl)
+returns c = let h : length (c .args .t1 .edges) ≡ 510 = search (needs, struct-length) in (lastFirst-more noEdge (c .args .t1 .count) (c .args .t1 .edges) (c .args .e) (omega arith), refl, refl)
 
 pub with-edge-spec : {M : Type 1} → statement M
 with-edge-spec = tie.close (tie.spec mul-e element-set-from-e add-self returns)
