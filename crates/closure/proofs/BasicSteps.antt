@@ -181,8 +181,8 @@ module _ (t : Tables) (from : ReadFrom t) where
   after-edges i s h l =
       let n = termCount (from .terms) in
       let w = steps-bounded n (take i all) begin
-          (λ l m. let r = sides-within (from .terms) ls (sound-tables t from) l (mem-take i all m) in
-          (omega (arith, r .0, length-termsOf (from .terms)), omega (arith, r .1, length-termsOf (from .terms)))) (tt, tt) in
+      (λ l m. let r = sides-within (from .terms) ls (sound-tables t from) l (mem-take i all m) in
+      (omega (arith, r .0, length-termsOf (from .terms)), omega (arith, r .1, length-termsOf (from .terms)))) (tt, tt) in
       omega (arith, h .count, bounded-edges n (after i .graph) w (omega (arith, left-within i l)), sound-tables t from .terms-fit)
 
   module _ (i : ℕ) (h : i < t .literals) (s : Arrays) (shows : ShowsAfter i s) where
@@ -196,9 +196,9 @@ module _ (t : Tables) (from : ReadFrom t) where
     test-is =
         let G = after i .graph in
         let at-left : getD (s .labels) (getD (t .lefts) i 0) 0 ≡ label G (getD all i noLiteral .left) =
-            shown-label (termsOf (from .terms)) all (after i) s shows (getD (t .lefts) i 0) (omega (arith, sides-small i h .0)) ∙ ap (label G) (left-is i h) in
+        shown-label (termsOf (from .terms)) all (after i) s shows (getD (t .lefts) i 0) (omega (arith, sides-small i h .0)) ∙ ap (label G) (left-is i h) in
         let at-right : getD (s .labels) (getD (t .rights) i 0) 0 ≡ label G (getD all i noLiteral .right) =
-            shown-label (termsOf (from .terms)) all (after i) s shows (getD (t .rights) i 0) (omega (arith, sides-small i h .1)) ∙ ap (label G) (right-is i h) in
+        shown-label (termsOf (from .terms)) all (after i) s shows (getD (t .rights) i 0) (omega (arith, sides-small i h .1)) ∙ ap (label G) (right-is i h) in
         ap₂ (λ (x y : Bool). x && y) (kind-is i h) (ap₂ (λ (x y : ℕ). not (eqb x y)) at-left at-right)
 
     -- the state after one record more
@@ -210,10 +210,10 @@ module _ (t : Tables) (from : ReadFrom t) where
     turn-taken e side q r f =
         let l = getD all i noLiteral in
         let taken : stepBy l (after i) ≡ withEdge (after i) (l .left) (l .right) (l .side) basic =
-            ap (λ (b : Bool). cond b (withEdge (after i) (l .left) (l .right) (l .side) basic) (after i)) (sym test-is ∙ e) in
+        ap (λ (b : Bool). cond b (withEdge (after i) (l .left) (l .right) (l .side) basic) (after i)) (sym test-is ∙ e) in
         let sides : side ≡ l .side = q ∙ side-is i h in
         let same : withEdge (after i) (getD (t .lefts) i 0) (getD (t .rights) i 0) side basic ≡ withEdge (after i) (l .left) (l .right) (l .side) basic =
-            λ j. withEdge (after i) (left-is i h j) (right-is i h j) (sides j) basic in
+        λ j. withEdge (after i) (left-is i h j) (right-is i h j) (sides j) basic in
         subst (λ (st : State). Shows (termsOf (from .terms)) all st r) (same ∙ sym taken ∙ sym after-more) (f (after i) shows)
 
     -- a record that is skipped
@@ -221,5 +221,5 @@ module _ (t : Tables) (from : ReadFrom t) where
     turn-left e =
         let l = getD all i noLiteral in
         let left : stepBy l (after i) ≡ after i =
-            ap (λ (b : Bool). cond b (withEdge (after i) (l .left) (l .right) (l .side) basic) (after i)) (sym test-is ∙ e) in
+        ap (λ (b : Bool). cond b (withEdge (after i) (l .left) (l .right) (l .side) basic) (after i)) (sym test-is ∙ e) in
         subst (λ (st : State). Shows (termsOf (from .terms)) all st s) (sym left ∙ sym after-more) shows

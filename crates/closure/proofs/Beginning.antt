@@ -60,9 +60,9 @@ row-padded bs ls s k h =
     ⊎-elim
     (λ (w : j < n). sym (List·getD-append used (replicate (4 - length used) 0) 0 j (omega arith) ∙ getD-take n (rowOf r) j 0 w))
     (λ (w : n ≤ j).
-      let e : j ≡ length used + (j - n) = omega arith in
-      row-at r j in-row ∙ unused-zero bs ls s k j h in-row w ∙
-      sym (ap (λ (i : ℕ). getD (used ++ replicate (4 - length used) 0) i 0) e ∙ getD-append-add used (replicate (4 - length used) 0) (j - n) 0 ∙ getD-replicate (4 - length used) (j - n) 0 0 (omega arith)))
+    let e : j ≡ length used + (j - n) = omega arith in
+    row-at r j in-row ∙ unused-zero bs ls s k j h in-row w ∙
+    sym (ap (λ (i : ℕ). getD (used ++ replicate (4 - length used) 0) i 0) e ∙ getD-append-add used (replicate (4 - length used) 0) (j - n) 0 ∙ getD-replicate (4 - length used) (j - n) 0 0 (omega arith)))
     (below-or-not j n))
 
 -- and the arity is the number of the arguments
@@ -141,17 +141,17 @@ module _ (t : Tables) (from : ReadFrom t) where
         symbols = opened-column 0 0 (λ k. symbolField (termRecord bs k)) (λ k. termAt table k .symbol) (st .symbols) (t .symbols) n i n-is done (ap (λ (x : Tables). x .symbols) read) (c .symbols) (λ k l. sym (ap (λ (x : Term). x .symbol) (term-is k l)));
         arities = opened-column 0 0 (λ k. arityField (termRecord bs k)) (λ k. length (termAt table k .arguments)) (st .arities) (t .arities) n i n-is done (ap (λ (x : Tables). x .arities) read) (c .arities) (λ k l. arity-length bs ls sound-tables k l ∙ sym (ap (λ (x : Term). length (x .arguments)) (term-is k l)));
         rows =
-          filling-all 511 (rowFor []) (λ k. record { args = getD given k [] }) n n i (st .rows) (omega (arith, terms-fit)) (c .rows) done ∙
-          filled-agree 511 (rowFor []) n (λ k. record { args = getD given k [] }) (λ k. rowFor (termAt table k .arguments))
-          (λ k l. let w : k < termCount bs = omega (arith, terms-are) in
-          ap (λ (r : List ℕ). record { args = r })
-          (ap (λ (rs : List (List ℕ)). getD rs k []) rows-are ∙ filled-at (λ j. rowOf (termRecord bs j)) 256 (0 ∷ 0 ∷ 0 ∷ 0 ∷ []) (termCount bs) k [] w all ∙
-          row-padded bs ls sound-tables k w ∙ sym (ap (λ (x : Term). padded (x .arguments)) (term-is k w)))) ∙
-          ap (λ (m : ℕ). filled 511 (rowFor []) m (λ k. rowFor (termAt table k .arguments))) (n-is ∙ terms-are ∙ sym length-table);
+            filling-all 511 (rowFor []) (λ k. record { args = getD given k [] }) n n i (st .rows) (omega (arith, terms-fit)) (c .rows) done ∙
+            filled-agree 511 (rowFor []) n (λ k. record { args = getD given k [] }) (λ k. rowFor (termAt table k .arguments))
+            (λ k l. let w : k < termCount bs = omega (arith, terms-are) in
+            ap (λ (r : List ℕ). record { args = r })
+            (ap (λ (rs : List (List ℕ)). getD rs k []) rows-are ∙ filled-at (λ j. rowOf (termRecord bs j)) 256 (0 ∷ 0 ∷ 0 ∷ 0 ∷ []) (termCount bs) k [] w all ∙
+            row-padded bs ls sound-tables k w ∙ sym (ap (λ (x : Term). padded (x .arguments)) (term-is k w)))) ∙
+            ap (λ (m : ℕ). filled 511 (rowFor []) m (λ k. rowFor (termAt table k .arguments))) (n-is ∙ terms-are ∙ sym length-table);
         colours = opened-column 0 0 (colourNumber ts lits ts) (colourNumber ts lits table) (st .colours) (t .colours) n i n-is done (ap (λ (x : Tables). x .colours) read) (c .colours) (λ k l. sym (ap (λ (x : List Term). colourNumber ts lits x k) (append-nil ts)));
         vertices =
-          opened-column false false (inUse ts lits) (vertex ts lits begin) (st .vertices) (t .used) n i n-is done (ap (λ (x : Tables). x .used) read) (c .vertices)
-          (λ k l. sym (ap (λ (b : Bool). cond b (inUse ts lits k) (ltb k (length table))) (lt-ltb k (length ts) (omega (arith, length-termsOf bs)))));
+            opened-column false false (inUse ts lits) (vertex ts lits begin) (st .vertices) (t .used) n i n-is done (ap (λ (x : Tables). x .used) read) (c .vertices)
+            (λ k l. sym (ap (λ (b : Bool). cond b (inUse ts lits k) (ltb k (length table))) (lt-ltb k (length ts) (omega (arith, length-termsOf bs)))));
         edges = c .edges;
         count = c .count;
         labels = c .labels;

@@ -50,9 +50,10 @@ loop-less : tie.Need-loop-less Inv-loop μ-loop
 loop-less c = omega arith
 
 loop-again : tie.Need-loop-again Inv-loop μ-loop
-loop-again c =
-    (omega arith,
-    below-more _ _ (c .before .before .before .before .loop .inv .1) (sym (c .before .before .field-label .ensures .0) ∙ c .if1 .left ∙ c .before .field-label2 .ensures .0))
+loop-again c = (
+  omega arith,
+  below-more _ _ (c .before .before .before .before .loop .inv .1) (sym (c .before .before .field-label .ensures .0) ∙ c .if1 .left ∙ c .before .field-label2 .ensures .0),
+)
 
 returns-2 : tie.Need-returns-2 Inv-loop μ-loop
 returns-2 c G e =

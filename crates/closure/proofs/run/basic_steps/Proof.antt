@@ -74,17 +74,18 @@ loop-less : tie.Need-loop-less Inv-loop μ-loop
 loop-less c = omega arith
 
 loop-again : tie.Need-loop-again Inv-loop μ-loop
-loop-again c = 
+loop-again c =
     let start = c .before .before .before .before .before .before .before in
     let more = c .before .before .before .before .before .loop-test .taken in
     let i = c .before .before .before .before .before .before .loop .i in
-    let inv = c .before .before .before .before .before .before .loop .inv .1 in
-    (omega arith,
-    λ from h. ⊎-elim
-    (λ w. subst (λ (s : Arrays). ShowsAfter (start .args .t1) from (i + 1) s) (sym (w .4))
-    (turn-taken (start .args .t1) from i more _ (inv from h) (w .0 .taken) (w .2 .result) (w .2 .ensures) (w .3 .result) (λ st shows. w .3 .ensures (termsOf (from .terms)) (literalsOf (from .literals)) st shows)))
-    (λ w. subst (λ (s : Arrays). ShowsAfter (start .args .t1) from (i + 1) s) (sym (w .1)) (turn-left (start .args .t1) from i more _ (inv from h) (w .0 .left)))
-    (c .if1 .came))
+    let inv = c .before .before .before .before .before .before .loop .inv .1 in (
+      omega arith,
+      λ from h. ⊎-elim
+          (λ w. subst (λ (s : Arrays). ShowsAfter (start .args .t1) from (i + 1) s) (sym (w .4))
+          (turn-taken (start .args .t1) from i more _ (inv from h) (w .0 .taken) (w .2 .result) (w .2 .ensures) (w .3 .result) (λ st shows. w .3 .ensures (termsOf (from .terms)) (literalsOf (from .literals)) st shows)))
+          (λ w. subst (λ (s : Arrays). ShowsAfter (start .args .t1) from (i + 1) s) (sym (w .1)) (turn-left (start .args .t1) from i more _ (inv from h) (w .0 .left)))
+          (c .if1 .came),
+    )
 
 returns : tie.Need-returns Inv-loop μ-loop
 returns c from h = after-all _ from _ _ (c .before .loop .inv .1 from h) (c .loop-test .left)

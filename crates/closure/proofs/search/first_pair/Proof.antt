@@ -81,12 +81,13 @@ loop-again c =
     let st = start .args .st in
     let keys = c .before .before .before .before .before .before .before .before .before .before .before .before .keys .result in
     let s = c .before .before .before .before .before .before .before .before .before .before .before .loop .s in
-    let t = c .before .before .before .before .found .given .0 .0 in
-    (omega (arith, found .0, inv .0),
-    omega (arith, found .1, start .pre .0),
-    λ G e. before-past (start .args .given) (tested keys (st .symbols) (st .labels) (st .arities) (st .rows) G) s _ (inv .2 G e) t
-    (λ k l h q. found .3 k l h (tested-candidate keys (st .symbols) (st .labels) (st .arities) (st .rows) G s k q))
-    (rows-refuse keys (st .symbols) (st .labels) (st .arities) (st .rows) G s t _ (c .before .congruent .ensures G e) (c .if1 .left)))
+    let t = c .before .before .before .before .found .given .0 .0 in (
+      omega (arith, found .0, inv .0),
+      omega (arith, found .1, start .pre .0),
+      λ G e. before-past (start .args .given) (tested keys (st .symbols) (st .labels) (st .arities) (st .rows) G) s _ (inv .2 G e) t
+          (λ k l h q. found .3 k l h (tested-candidate keys (st .symbols) (st .labels) (st .arities) (st .rows) G s k q))
+          (rows-refuse keys (st .symbols) (st .labels) (st .arities) (st .rows) G s t _ (c .before .congruent .ensures G e) (c .if1 .left)),
+    )
 
 enum-told : tie.Need-enum-told Inv-loop μ-loop
 enum-told c = search needs
@@ -107,11 +108,12 @@ loop-again-2 c =
     let inv = c .before .before .before .before .before .before .before .loop .inv in
     let st = start .args .st in
     let keys = c .before .before .before .before .before .before .before .before .keys .result in
-    let s = c .before .before .before .before .before .before .before .loop .s in
-    (omega arith,
-    omega (arith, start .pre .0),
-    λ G e. before-next (start .args .given) (tested keys (st .symbols) (st .labels) (st .arities) (st .rows) G) s _ (inv .2 G e)
-    (λ k l h q. none-left k l h (tested-candidate keys (st .symbols) (st .labels) (st .arities) (st .rows) G s k q)))
+    let s = c .before .before .before .before .before .before .before .loop .s in (
+      omega arith,
+      omega (arith, start .pre .0),
+      λ G e. before-next (start .args .given) (tested keys (st .symbols) (st .labels) (st .arities) (st .rows) G) s _ (inv .2 G e)
+          (λ k l h q. none-left k l h (tested-candidate keys (st .symbols) (st .labels) (st .arities) (st .rows) G s k q)),
+    )
 
 returns-2 : tie.Need-returns-2 Inv-loop μ-loop
 returns-2 c ts ls reached shows all one =
