@@ -8,7 +8,7 @@ use lib.ListN.{length, getD, take, drop, set, replicate, length-map, length-take
 use lib.Seq.{take-suc, take-length, drop-cons, drop-length, set-at, set-getD, getD-at}
 use Rattle.tables.specs.Words.{below}
 use Rattle.tables.specs.Read.{filled}
-use Rattle.tables.proofs.Records.{written, written-more, Filling, filling-more}
+use Rattle.tables.proofs.Records.{written-more, Filling, filling-more}
 use Rattle.tables.proofs.Filled.{length-map-below, filled-agree}
 
 -- ---- an array that is changed in place
@@ -51,9 +51,10 @@ module _ (f : ℕ → ℕ) (xs : List ℕ) where
 
   -- a turn that writes what the rule says of the place
   pub changing-set : (i : ℕ) (ys : List ℕ) (y : ℕ) → Changing i ys → i < length xs → y ≡ f (getD ys i 0) → Changing (i + 1) (set ys i y)
-  changing-set i ys y w h e =
-      (omega arith,
-       ap₂ (λ (l : List ℕ) (z : ℕ). set l i z) (w .1) (e ∙ ap f (ap (λ (l : List ℕ). getD l i 0) (w .1) ∙ changed-at i h)) ∙ changed-more i h)
+  changing-set i ys y w h e = (
+    omega arith,
+    ap₂ (λ (l : List ℕ) (z : ℕ). set l i z) (w .1) (e ∙ ap f (ap (λ (l : List ℕ). getD l i 0) (w .1) ∙ changed-at i h)) ∙ changed-more i h,
+  )
 
   -- a turn at a place that the rule does not change
   pub changing-kept : (i : ℕ) (ys : List ℕ) → Changing i ys → i < length xs → getD ys i 0 ≡ f (getD ys i 0) → Changing (i + 1) ys
@@ -82,6 +83,6 @@ filling-kept {X = X} size filler f n i xs h w l e =
     let r = filling-more size filler f n i xs filler h w l e in
     let rest : size - i ≡ suc (size - (i + 1)) = omega arith in
     let there : getD xs i filler ≡ filler =
-        ap (λ (ys : List X). getD ys i filler) (w .1 ∙ ap (λ (k : ℕ). map f (below i) ++ replicate k filler) rest) ∙
-        getD-at (map f (below i)) filler (replicate (size - (i + 1)) filler) filler i (length-map-below f i) in
+    ap (λ (ys : List X). getD ys i filler) (w .1 ∙ ap (λ (k : ℕ). map f (below i) ++ replicate k filler) rest) ∙
+    getD-at (map f (below i)) filler (replicate (size - (i + 1)) filler) filler i (length-map-below f i) in
     (r .0, sym (set-getD xs i filler) ∙ ap (λ (x : X). set xs i x) there ∙ r .1)

@@ -1,32 +1,31 @@
 -- The basic steps, one record after the other: what the columns say of a record, one turn more, and a bound on the edges.
 use mathlib.Core.Bool.{Bool, true, false, cond, not, _&&_}
-use mathlib.Core.List.{List, [], _∷_, _++_, map, List·Memᴰ, List·Memᴰ·head, List·Memᴰ·tail, Memᴰ·append-left}
+use mathlib.Core.List.{List, [], _∷_, _++_, List·Memᴰ, List·Memᴰ·head, List·Memᴰ·tail, Memᴰ·append-left}
 use mathlib.Core.Path.{_≡_, refl, sym, ap, ap₂, subst, _∙_}
-use Prim.Native.Nat.{ℕ, suc, _+_, _≤_, _<_}
+use Prim.Native.Nat.{ℕ, _+_, _≤_, _<_}
 use native.Mathlib.Numerals.{add-one}
 use native.Mathlib.Omega.{arith}
-use lib.Dec.{T, eqb}
+use lib.Dec.{eqb}
 use lib.ListN.{length, getD, take, drop, take-append-drop}
 use lib.Seq.{take-suc, take-all}
 use Rattle.tables.specs.Words.{below}
 use Rattle.tables.specs.Bytes.{byteAt, wordAt}
-use Rattle.tables.specs.Terms.{Term}
 use Rattle.tables.specs.TermTable.{termCount, termsOf}
-use Rattle.tables.specs.LiteralTable.{Kind, equal, different, isEqual, Literal, literalCount, literalRecord, literalOf, literalsOf}
+use Rattle.tables.specs.LiteralTable.{equal, different, isEqual, Literal, literalCount, literalRecord, literalOf, literalsOf}
 use Rattle.tables.specs.declared.Side.{Side}
 use Rattle.tables.specs.declared.Side.the-variants.{A, B}
 use Rattle.tables.specs.declared.Tables.{Tables}
 use Rattle.tables.specs.Read.{filled, soundTables}
-use Rattle.tables.proofs.Words.{and-right, passes, length-below, mem-below, below-mem}
+use Rattle.tables.proofs.Words.{and-right, passes, length-below, mem-below}
 use Rattle.tables.proofs.Filled.{filled-at, length-map-below, map-below-at}
-use Rattle.tables.proofs.Sound.{SoundTables, SoundLiteral, sound-literal, sides-within, length-termsOf}
-use Rattle.closure.specs.Graph.{Edge, EdgeKind, basic, Graph, label, joined}
-use Rattle.closure.specs.Steps.{State, begin, tableOf, withEdge}
+use Rattle.tables.proofs.Sound.{sound-literal, sides-within, length-termsOf}
+use Rattle.closure.specs.Graph.{basic, Graph, label, joined}
+use Rattle.closure.specs.Steps.{State, begin, withEdge}
 use Rattle.closure.specs.OwnRun.{basicSteps}
 use Rattle.closure.specs.Shown.{Shows}
 use Rattle.closure.specs.Opening.{ReadFrom, Opens}
 use Rattle.closure.specs.declared.state.State.{State as Arrays}
-use Rattle.closure.proofs.Invariant.{Each, Forest}
+use Rattle.closure.proofs.Invariant.{Forest}
 use Rattle.closure.proofs.Count.{EndsIn, once-below, fewer-edges}
 use Rattle.closure.proofs.Showing.{shown-label}
 use Rattle.closure.proofs.Beginning.{sound-tables, read-sound}
@@ -182,8 +181,8 @@ module _ (t : Tables) (from : ReadFrom t) where
   after-edges i s h l =
       let n = termCount (from .terms) in
       let w = steps-bounded n (take i all) begin
-          (λ l m. let r = sides-within (from .terms) ls (sound-tables t from) l (mem-take i all m) in
-          (omega (arith, r .0, length-termsOf (from .terms)), omega (arith, r .1, length-termsOf (from .terms)))) (tt, tt) in
+      (λ l m. let r = sides-within (from .terms) ls (sound-tables t from) l (mem-take i all m) in
+      (omega (arith, r .0, length-termsOf (from .terms)), omega (arith, r .1, length-termsOf (from .terms)))) (tt, tt) in
       omega (arith, h .count, bounded-edges n (after i .graph) w (omega (arith, left-within i l)), sound-tables t from .terms-fit)
 
   module _ (i : ℕ) (h : i < t .literals) (s : Arrays) (shows : ShowsAfter i s) where
@@ -197,9 +196,9 @@ module _ (t : Tables) (from : ReadFrom t) where
     test-is =
         let G = after i .graph in
         let at-left : getD (s .labels) (getD (t .lefts) i 0) 0 ≡ label G (getD all i noLiteral .left) =
-            shown-label (termsOf (from .terms)) all (after i) s shows (getD (t .lefts) i 0) (omega (arith, sides-small i h .0)) ∙ ap (label G) (left-is i h) in
+        shown-label (termsOf (from .terms)) all (after i) s shows (getD (t .lefts) i 0) (omega (arith, sides-small i h .0)) ∙ ap (label G) (left-is i h) in
         let at-right : getD (s .labels) (getD (t .rights) i 0) 0 ≡ label G (getD all i noLiteral .right) =
-            shown-label (termsOf (from .terms)) all (after i) s shows (getD (t .rights) i 0) (omega (arith, sides-small i h .1)) ∙ ap (label G) (right-is i h) in
+        shown-label (termsOf (from .terms)) all (after i) s shows (getD (t .rights) i 0) (omega (arith, sides-small i h .1)) ∙ ap (label G) (right-is i h) in
         ap₂ (λ (x y : Bool). x && y) (kind-is i h) (ap₂ (λ (x y : ℕ). not (eqb x y)) at-left at-right)
 
     -- the state after one record more
@@ -211,10 +210,10 @@ module _ (t : Tables) (from : ReadFrom t) where
     turn-taken e side q r f =
         let l = getD all i noLiteral in
         let taken : stepBy l (after i) ≡ withEdge (after i) (l .left) (l .right) (l .side) basic =
-            ap (λ (b : Bool). cond b (withEdge (after i) (l .left) (l .right) (l .side) basic) (after i)) (sym test-is ∙ e) in
+        ap (λ (b : Bool). cond b (withEdge (after i) (l .left) (l .right) (l .side) basic) (after i)) (sym test-is ∙ e) in
         let sides : side ≡ l .side = q ∙ side-is i h in
         let same : withEdge (after i) (getD (t .lefts) i 0) (getD (t .rights) i 0) side basic ≡ withEdge (after i) (l .left) (l .right) (l .side) basic =
-            λ j. withEdge (after i) (left-is i h j) (right-is i h j) (sides j) basic in
+        λ j. withEdge (after i) (left-is i h j) (right-is i h j) (sides j) basic in
         subst (λ (st : State). Shows (termsOf (from .terms)) all st r) (same ∙ sym taken ∙ sym after-more) (f (after i) shows)
 
     -- a record that is skipped
@@ -222,5 +221,5 @@ module _ (t : Tables) (from : ReadFrom t) where
     turn-left e =
         let l = getD all i noLiteral in
         let left : stepBy l (after i) ≡ after i =
-            ap (λ (b : Bool). cond b (withEdge (after i) (l .left) (l .right) (l .side) basic) (after i)) (sym test-is ∙ e) in
+        ap (λ (b : Bool). cond b (withEdge (after i) (l .left) (l .right) (l .side) basic) (after i)) (sym test-is ∙ e) in
         subst (λ (st : State). Shows (termsOf (from .terms)) all st s) (sym left ∙ sym after-more) shows

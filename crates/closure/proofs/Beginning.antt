@@ -1,12 +1,12 @@
 -- The arrays filled from the tables show the state before the first step.
-use mathlib.Core.Bool.{Bool, true, false, cond, not, _&&_, _||_}
-use mathlib.Core.List.{List, [], _∷_, _++_, map, append-nil}
+use mathlib.Core.Bool.{Bool, false, cond, not, _||_}
+use mathlib.Core.List.{List, [], _∷_, _++_, append-nil}
 use mathlib.Core.Logic.{⊎-elim}
-use mathlib.Core.Path.{_≡_, refl, sym, ap, ap₂, subst, _∙_}
-use Prim.Native.Nat.{ℕ, suc, _+_, _-_, _≤_, _<_, min}
+use mathlib.Core.Path.{_≡_, sym, ap, _∙_}
+use Prim.Native.Nat.{ℕ, _+_, _-_, _≤_, _<_}
 use native.Mathlib.Omega.{arith}
 use borrow.Author.Tests.{lt-ltb}
-use lib.Dec.{T, eqb, ltb, leb, eqb→eq, le→leb, not-T}
+use lib.Dec.{eqb, ltb, leb, eqb→eq, le→leb}
 use lib.ListN.{length, getD, take, replicate, length-append, length-take, length-replicate, getD-replicate, List·getD-append}
 use lib.Seq.{ext-getD, getD-take, getD-append-add}
 use Rattle.tables.specs.Words.{someBelow}
@@ -14,37 +14,30 @@ use Rattle.tables.specs.Terms.{Term, termAt}
 use Rattle.tables.specs.TermTable.{termCount, termRecord, symbolField, arityField, argumentField, rowOf, arityWrong, spareWrong, notLower, unusedNotZero, breaksLayout, termOf, termsOf}
 use Rattle.tables.specs.LiteralTable.{literalsOf}
 use Rattle.tables.specs.Colours.{inUse}
-use Rattle.tables.specs.Checks.{checked, numberOf}
+use Rattle.tables.specs.Checks.{numberOf}
 use Rattle.tables.specs.Read.{filled, colourNumber, argumentRows, soundTables, refusedTables, tablesRead}
 use Rattle.tables.specs.declared.Check.{Check}
 use Rattle.tables.specs.declared.Check.the-variants.{Sound}
 use Rattle.tables.specs.declared.Tables.{Tables}
+use borrow.Author.Tests.{eqb-false}
+use Rattle.tables.proofs.Faults.{unused-not-zero}
 use Rattle.tables.proofs.Words.{or-right, and-both, some-someBelow, by-test, passes, fails, below-or-not}
-use Rattle.tables.proofs.Records.{Filling, filling-none, filling-more, filling-all}
+use Rattle.tables.proofs.Records.{Filling, filling-all}
 use Rattle.tables.proofs.Filled.{filled-at, filled-agree}
 use Rattle.tables.proofs.Sound.{SoundTables, sound, length-termsOf, termAt-termsOf, row-at, length-row, arity-small}
 use Rattle.closure.specs.Steps.{begin, tableOf, vertex}
 use Rattle.closure.specs.Layout.{edgesOf}
-use Rattle.closure.specs.Shown.{labelsOf, padded, rowFor, column, Shows}
+use Rattle.closure.specs.Shown.{labelsOf, padded, rowFor, column}
 use Rattle.closure.specs.Opening.{ReadFrom, Opens}
-use Rattle.closure.specs.declared.Row.{Row}
 use Rattle.closure.specs.declared.state.State.{State as Arrays}
 
 -- ---- tables that no row refuses
 
 -- "Argument fields past the arity are zero"
 unused-zero : (bs ls : List ℕ) → SoundTables bs ls → (k j : ℕ) → k < termCount bs → j < 4 → arityField (termRecord bs k) ≤ j → argumentField (termRecord bs k) j ≡ 0
-unfolding breaksLayout unusedNotZero
 unused-zero bs ls s k j h l a =
-    let r = termRecord bs k in
-    let before = arityWrong r || spareWrong r || someBelow (notLower k r) 4 in
-    by-test (eqb (argumentField r j) 0)
-    (λ e. eqb→eq (argumentField r j) 0 (passes (eqb (argumentField r j) 0) e))
-    (λ e. absurd
-    (s .layout k h
-    (or-right before (someBelow (unusedNotZero r) 4)
-    (some-someBelow (unusedNotZero r) 4 j l
-    (and-both (leb (arityField r) j) (not (eqb (argumentField r j) 0)) (le→leb (arityField r) j a) (fails (eqb (argumentField r j) 0) e))))))
+    let x = argumentField (termRecord bs k) j in
+    by-test (eqb x 0) (λ e. eqb→eq x 0 (passes (eqb x 0) e)) (λ e. absurd (s .layout k h (unused-not-zero j l a (eqb-false x 0 e))))
 
 -- so the row of a record is its term's arguments, padded
 pub row-padded : (bs ls : List ℕ) → SoundTables bs ls → (k : ℕ) → k < termCount bs → rowOf (termRecord bs k) ≡ padded (take (arityField (termRecord bs k)) (rowOf (termRecord bs k)))
@@ -61,9 +54,9 @@ row-padded bs ls s k h =
     ⊎-elim
     (λ (w : j < n). sym (List·getD-append used (replicate (4 - length used) 0) 0 j (omega arith) ∙ getD-take n (rowOf r) j 0 w))
     (λ (w : n ≤ j).
-      let e : j ≡ length used + (j - n) = omega arith in
-      row-at r j in-row ∙ unused-zero bs ls s k j h in-row w ∙
-      sym (ap (λ (i : ℕ). getD (used ++ replicate (4 - length used) 0) i 0) e ∙ getD-append-add used (replicate (4 - length used) 0) (j - n) 0 ∙ getD-replicate (4 - length used) (j - n) 0 0 (omega arith)))
+    let e : j ≡ length used + (j - n) = omega arith in
+    row-at r j in-row ∙ unused-zero bs ls s k j h in-row w ∙
+    sym (ap (λ (i : ℕ). getD (used ++ replicate (4 - length used) 0) i 0) e ∙ getD-append-add used (replicate (4 - length used) 0) (j - n) 0 ∙ getD-replicate (4 - length used) (j - n) 0 0 (omega arith)))
     (below-or-not j n))
 
 -- and the arity is the number of the arguments
@@ -142,17 +135,17 @@ module _ (t : Tables) (from : ReadFrom t) where
         symbols = opened-column 0 0 (λ k. symbolField (termRecord bs k)) (λ k. termAt table k .symbol) (st .symbols) (t .symbols) n i n-is done (ap (λ (x : Tables). x .symbols) read) (c .symbols) (λ k l. sym (ap (λ (x : Term). x .symbol) (term-is k l)));
         arities = opened-column 0 0 (λ k. arityField (termRecord bs k)) (λ k. length (termAt table k .arguments)) (st .arities) (t .arities) n i n-is done (ap (λ (x : Tables). x .arities) read) (c .arities) (λ k l. arity-length bs ls sound-tables k l ∙ sym (ap (λ (x : Term). length (x .arguments)) (term-is k l)));
         rows =
-          filling-all 511 (rowFor []) (λ k. record { args = getD given k [] }) n n i (st .rows) (omega (arith, terms-fit)) (c .rows) done ∙
-          filled-agree 511 (rowFor []) n (λ k. record { args = getD given k [] }) (λ k. rowFor (termAt table k .arguments))
-          (λ k l. let w : k < termCount bs = omega (arith, terms-are) in
-          ap (λ (r : List ℕ). record { args = r })
-          (ap (λ (rs : List (List ℕ)). getD rs k []) rows-are ∙ filled-at (λ j. rowOf (termRecord bs j)) 256 (0 ∷ 0 ∷ 0 ∷ 0 ∷ []) (termCount bs) k [] w all ∙
-          row-padded bs ls sound-tables k w ∙ sym (ap (λ (x : Term). padded (x .arguments)) (term-is k w)))) ∙
-          ap (λ (m : ℕ). filled 511 (rowFor []) m (λ k. rowFor (termAt table k .arguments))) (n-is ∙ terms-are ∙ sym length-table);
+            filling-all 511 (rowFor []) (λ k. record { args = getD given k [] }) n n i (st .rows) (omega (arith, terms-fit)) (c .rows) done ∙
+            filled-agree 511 (rowFor []) n (λ k. record { args = getD given k [] }) (λ k. rowFor (termAt table k .arguments))
+            (λ k l. let w : k < termCount bs = omega (arith, terms-are) in
+            ap (λ (r : List ℕ). record { args = r })
+            (ap (λ (rs : List (List ℕ)). getD rs k []) rows-are ∙ filled-at (λ j. rowOf (termRecord bs j)) 256 (0 ∷ 0 ∷ 0 ∷ 0 ∷ []) (termCount bs) k [] w all ∙
+            row-padded bs ls sound-tables k w ∙ sym (ap (λ (x : Term). padded (x .arguments)) (term-is k w)))) ∙
+            ap (λ (m : ℕ). filled 511 (rowFor []) m (λ k. rowFor (termAt table k .arguments))) (n-is ∙ terms-are ∙ sym length-table);
         colours = opened-column 0 0 (colourNumber ts lits ts) (colourNumber ts lits table) (st .colours) (t .colours) n i n-is done (ap (λ (x : Tables). x .colours) read) (c .colours) (λ k l. sym (ap (λ (x : List Term). colourNumber ts lits x k) (append-nil ts)));
         vertices =
-          opened-column false false (inUse ts lits) (vertex ts lits begin) (st .vertices) (t .used) n i n-is done (ap (λ (x : Tables). x .used) read) (c .vertices)
-          (λ k l. sym (ap (λ (b : Bool). cond b (inUse ts lits k) (ltb k (length table))) (lt-ltb k (length ts) (omega (arith, length-termsOf bs)))));
+            opened-column false false (inUse ts lits) (vertex ts lits begin) (st .vertices) (t .used) n i n-is done (ap (λ (x : Tables). x .used) read) (c .vertices)
+            (λ k l. sym (ap (λ (b : Bool). cond b (inUse ts lits k) (ltb k (length table))) (lt-ltb k (length ts) (omega (arith, length-termsOf bs)))));
         edges = c .edges;
         count = c .count;
         labels = c .labels;

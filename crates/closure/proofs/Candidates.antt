@@ -1,14 +1,14 @@
 -- What a candidate for a partner is: a pair on which a derived step can be taken is one, and so is no pair that the search passes over.
-use mathlib.Core.Bool.{Bool, true, false, cond, not, _&&_}
-use mathlib.Core.List.{List, [], _∷_, _++_, map}
+use mathlib.Core.Bool.{Bool, true, false, not, _&&_}
+use mathlib.Core.List.{List}
 use mathlib.Core.Logic.{⊎-elim}
-use mathlib.Core.Path.{_≡_, refl, sym, ap, ap₂, subst, _∙_}
-use Prim.Native.Nat.{ℕ, suc, _+_, _*_, _-_, _≤_, _<_}
+use mathlib.Core.Path.{_≡_, subst}
+use Prim.Native.Nat.{ℕ, _+_, _-_, _≤_, _<_}
 use native.Mathlib.Omega.{arith}
 use borrow.Author.Tests.{eq-eqb, ne-eqb}
-use lib.Dec.{T, eqb, eqb→eq, T-not, not-T}
-use lib.ListN.{length, getD}
-use Rattle.tables.proofs.Words.{below-or-is, and-left, and-right, and-both, passed, passes, fails}
+use lib.Dec.{T, eqb, eqb→eq, T-not}
+use lib.ListN.{getD}
+use Rattle.tables.proofs.Words.{below-or-is, and-left, and-right, and-both, passes, fails}
 use Rattle.closure.specs.Keys.{candidate}
 
 module _ (keys symbols labels : List ℕ) (s t : ℕ) where

@@ -2,7 +2,7 @@
 use mathlib.Core.Bool.{Bool, true, false, cond}
 use mathlib.Core.List.{List, [], _∷_, _++_, map, map-append, append-assoc, flatMap, List·Memᴰ, List·Memᴰ·head, List·Memᴰ·tail, List·Memᴰ·append-cases, Memᴰ·of-map}
 use mathlib.Core.Logic.{_⊎_, inl, inr, ⊎-elim}
-use mathlib.Core.Option.{Option, some, none}
+use mathlib.Core.Option.{some, none}
 use mathlib.Core.Path.{_≡_, refl, sym, ap, subst, _∙_}
 use Prim.Native.Nat.{ℕ, zero, suc, _<_}
 use native.Mathlib.Nat.{not-suc-le-zero}
@@ -69,11 +69,12 @@ flatMap-append f (x ∷ xs) ys = ap (λ (l : List Pair). f x ++ l) (flatMap-appe
 row-split : (n s t : ℕ) → s < t → t < n → (rest : List Pair) × (map (pair s) (keep (ltb s) (below n)) ≡ map (pair s) (keep (ltb s) (below t)) ++ (pair s t ∷ rest))
 unfolding keep
 row-split n s t h l =
-    let r = below-split n t l in
-    (map (pair s) (keep (ltb s) (r .0)),
-     ap (λ (xs : List ℕ). map (pair s) (keep (ltb s) xs)) (r .1) ∙
-     ap (map (pair s)) (keep-append (ltb s) (below t) (t ∷ r .0) ∙ ap (λ (b : Bool). keep (ltb s) (below t) ++ cond b (t ∷ keep (ltb s) (r .0)) (keep (ltb s) (r .0))) (lt-ltb s t h)) ∙
-     map-append (pair s) (keep (ltb s) (below t)) (t ∷ keep (ltb s) (r .0)))
+    let r = below-split n t l in (
+      map (pair s) (keep (ltb s) (r .0)),
+      ap (λ (xs : List ℕ). map (pair s) (keep (ltb s) xs)) (r .1) ∙
+          ap (map (pair s)) (keep-append (ltb s) (below t) (t ∷ r .0) ∙ ap (λ (b : Bool). keep (ltb s) (below t) ++ cond b (t ∷ keep (ltb s) (r .0)) (keep (ltb s) (r .0))) (lt-ltb s t h)) ∙
+          map-append (pair s) (keep (ltb s) (below t)) (t ∷ keep (ltb s) (r .0)),
+    )
 
 -- ---- the first pair
 
@@ -96,10 +97,10 @@ module _ (n : ℕ) (p : Pair → Bool) where
       let front : List Pair = flatMap row (below s) ++ map (pair s) (keep (ltb s) (below t)) in
       let rest : List Pair = q .0 ++ flatMap row (r .0) in
       let split : flatMap row (below n) ≡ front ++ (pair s t ∷ rest) =
-          ap (flatMap row) (r .1) ∙ flatMap-append row (below s) (s ∷ r .0) ∙
-          ap (λ (l : List Pair). flatMap row (below s) ++ (l ++ flatMap row (r .0))) (q .1) ∙
-          ap (λ (l : List Pair). flatMap row (below s) ++ l) (append-assoc (map (pair s) (keep (ltb s) (below t))) (pair s t ∷ q .0) (flatMap row (r .0))) ∙
-          sym (append-assoc (flatMap row (below s)) (map (pair s) (keep (ltb s) (below t))) (pair s t ∷ rest)) in
+      ap (flatMap row) (r .1) ∙ flatMap-append row (below s) (s ∷ r .0) ∙
+      ap (λ (l : List Pair). flatMap row (below s) ++ (l ++ flatMap row (r .0))) (q .1) ∙
+      ap (λ (l : List Pair). flatMap row (below s) ++ l) (append-assoc (map (pair s) (keep (ltb s) (below t))) (pair s t ∷ q .0) (flatMap row (r .0))) ∙
+      sym (append-assoc (flatMap row (below s)) (map (pair s) (keep (ltb s) (below t))) (pair s t ∷ rest)) in
       ap (firstOf p) split ∙ firstOf-is p front (pair s t) rest (λ y m. ⊎-elim (earlier y) (here y) (List·Memᴰ·append-cases (flatMap row (below s)) m)) passing
     where
       earlier : (y : Pair) → List·Memᴰ y (flatMap (λ a. map (pair a) (keep (ltb a) (below n))) (below s)) → T (p y) → ⊥

@@ -1,16 +1,13 @@
 -- Laws of the array of labels: one edge more changes it by one rule.
 use mathlib.Core.Bool.{Bool, cond}
-use mathlib.Core.List.{List, [], _∷_, _++_, map, map-append, map-map, append-nil, append-assoc}
-use mathlib.Core.Path.{_≡_, refl, sym, ap, ap₂, _∙_}
-use Prim.Native.Nat.{ℕ, suc, _+_, _-_, _≤_, _<_}
-use native.Mathlib.Numerals.{add-one}
+use mathlib.Core.List.{List, [], _∷_, _++_, map, map-map, append-nil}
+use mathlib.Core.Path.{_≡_, sym, ap, _∙_}
+use Prim.Native.Nat.{ℕ, _+_, _-_, _≤_, _<_}
 use native.Mathlib.Omega.{arith}
 use borrow.Author.Tests.{eq-eqb, ne-eqb}
 use lib.Dec.{eqb}
-use lib.ListN.{length, getD, take, drop, set, replicate, length-map, length-take}
-use lib.Seq.{take-suc, drop-cons, set-at, getD-at, set-getD, take-all, drop-length}
+use lib.ListN.{length, getD, replicate}
 use Rattle.tables.specs.Words.{below}
-use Rattle.tables.proofs.Words.{length-below}
 use Rattle.tables.proofs.Filled.{length-map-below, map-below-at}
 use Rattle.tables.specs.Read.{filled}
 use Rattle.tables.proofs.Records.{Filling}

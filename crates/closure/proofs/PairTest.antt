@@ -1,35 +1,33 @@
 -- The test that the search makes of a pair passes where a derived step can be taken on it: so it finds the first such pair.
 use mathlib.Core.Bool.{Bool, true, false, cond, not, _&&_}
-use mathlib.Core.List.{List, [], _∷_, _++_, map, map-append, List·Memᴰ}
+use mathlib.Core.List.{List, _++_, map, map-append, List·Memᴰ}
 use mathlib.Core.Logic.{_⊎_, inl, inr, ⊎-elim}
 use mathlib.Core.Option.{some, none}
-use mathlib.Core.Path.{_≡_, refl, sym, ap, ap₂, subst, _∙_}
-use Prim.Native.Nat.{ℕ, suc, _+_, _*_, _-_, _≤_, _<_}
+use mathlib.Core.Path.{_≡_, sym, ap, ap₂, subst, _∙_}
+use Prim.Native.Nat.{ℕ, _+_, _-_, _≤_, _<_}
 use native.Mathlib.Omega.{arith}
 use borrow.Author.Tests.{eq-eqb}
-use lib.Dec.{T, eqb, eqb→eq, eqb-refl, T-not, not-T}
+use lib.Dec.{T, eqb, eqb→eq}
 use lib.ListN.{length, getD, take, replicate, length-map, List·getD-map, List·getD-append}
-use Rattle.tables.specs.Words.{Pair, pair, firstOf, pairsBelow}
+use Rattle.tables.specs.Words.{pair}
 use Rattle.tables.specs.Terms.{Term, termAt, noTerm}
 use Rattle.tables.specs.LiteralTable.{Literal}
 use Rattle.tables.specs.Colours.{inUse}
-use Rattle.tables.specs.Read.{filled}
-use Rattle.tables.proofs.Words.{and-left, and-right, and-both, passed, passes, failed, fails, by-test, below-or-is, below-or-not, mem-getD}
+use Rattle.tables.proofs.Words.{and-left, and-right, and-both, passed, passes, fails, by-test, below-or-is, below-or-not, mem-getD}
 use Rattle.tables.proofs.Terms.{map-agree}
 use Rattle.tables.proofs.Filled.{filled-at}
 use Rattle.closure.specs.Graph.{Graph, label, joined, joinedPairwise}
 use Rattle.closure.specs.Steps.{State, tableOf, congruent}
 use Rattle.closure.specs.OwnRun.{derivable, firstPair}
-use Rattle.closure.specs.Shown.{labelsOf, padded, rowFor, Shows}
-use Rattle.closure.specs.Keys.{noRow, FieldsWithin, RowsWithin, fieldLabel, keyOf, keysOf, candidate, Orderly, OneArity}
+use Rattle.closure.specs.Shown.{labelsOf, padded, Shows}
+use Rattle.closure.specs.Keys.{noRow, fieldLabel, keyOf, keysOf, candidate, Orderly, OneArity}
 use Rattle.closure.specs.declared.Row.{Row}
 use Rattle.closure.specs.declared.state.State.{State as Arrays}
-use Rattle.closure.proofs.Joined.{joined-label, label-joined}
 use Rattle.closure.proofs.LabelArray.{label-at}
 use Rattle.closure.proofs.Showing.{shown-label, shown-symbol, shown-arity, shown-row, shown-in-use, shown-arguments, given-within}
 use Rattle.closure.proofs.Agreeing.{joined-labels}
 use Rattle.closure.proofs.FirstPair.{Before, no-pair, first-pair}
-use Rattle.closure.proofs.Candidates.{no-candidate, other-key, is-candidate, candidate-parts}
+use Rattle.closure.proofs.Candidates.{is-candidate, candidate-parts}
 
 -- ---- passing over pairs in their order
 
@@ -84,7 +82,7 @@ padded-agree G xs ys f g h j =
     let same : map (label G) xs ≡ map (label G) ys = joined-labels G xs ys h in
     let len : length xs ≡ length ys = sym (length-map xs (label G)) ∙ ap length same ∙ length-map ys (label G) in
     let e : map lab xs ≡ map lab ys =
-        map-agree lab (label G) xs (λ a m. label-at G a 0 (f a m)) ∙ same ∙ sym (map-agree lab (label G) ys (λ a m. label-at G a 0 (g a m))) in
+    map-agree lab (label G) xs (λ a m. label-at G a 0 (f a m)) ∙ same ∙ sym (map-agree lab (label G) ys (λ a m. label-at G a 0 (g a m))) in
     sym (List·getD-map lab (xs ++ replicate (4 - length xs) 0) j 0) ∙
     ap (λ (l : List ℕ). getD l j (lab 0))
     (map-append lab xs (replicate (4 - length xs) 0) ∙
@@ -115,8 +113,8 @@ module _ (ts : List Term) (ls : List Literal) (st : State) (s : Arrays) (shows :
       let r = mem-getD 0 m in
       let small : length (arguments v) ≤ 4 = omega (arith, orderly .arities v (omega arith), shown-arity ts ls st s shows v (in-table v l)) in
       let e : getD (getD (s .rows) v noRow .args) (r .0) 0 ≡ a =
-          ap (λ (row : Row). getD (row .args) (r .0) 0) (shown-row ts ls st s shows v (in-table v l)) ∙
-          List·getD-append (arguments v) (replicate (4 - length (arguments v)) 0) 0 (r .0) (r .1) ∙ r .2 in
+      ap (λ (row : Row). getD (row .args) (r .0) 0) (shown-row ts ls st s shows v (in-table v l)) ∙
+      List·getD-append (arguments v) (replicate (4 - length (arguments v)) 0) 0 (r .0) (r .1) ∙ r .2 in
       subst (λ (k : ℕ). k < 511) e (orderly .rows v (omega arith) .1 (r .0) (omega (arith, r .1)))
 
   -- the key of a given term
@@ -176,23 +174,23 @@ module _ (ts : List Term) (ls : List Literal) (st : State) (s : Arrays) (shows :
         let joined-args = and-right alike args pair-is in
         let both = and-right (alike && args) used first in
         let len : length (arguments a) ≡ length (arguments b) =
-            sym (length-map (arguments a) (label G)) ∙ ap length (joined-labels G (arguments a) (arguments b) joined-args) ∙ length-map (arguments b) (label G) in
+        sym (length-map (arguments a) (label G)) ∙ ap length (joined-labels G (arguments a) (arguments b) joined-args) ∙ length-map (arguments b) (label G) in
         let key-a : getD keys a 0 ≡ keyOf (labelsOf G) (termAt (tableOf ts st) a .symbol) (padded (arguments a)) + 1 =
-            key-at a h ∙ ap (λ (t : Bool). cond t (keyOf (labelsOf G) (termAt (tableOf ts st) a .symbol) (padded (arguments a)) + 1) 0) (passed (inUse ts ls a) (and-left (inUse ts ls a) (inUse ts ls b) both)) in
+        key-at a h ∙ ap (λ (t : Bool). cond t (keyOf (labelsOf G) (termAt (tableOf ts st) a .symbol) (padded (arguments a)) + 1) 0) (passed (inUse ts ls a) (and-left (inUse ts ls a) (inUse ts ls b) both)) in
         let key-b : getD keys b 0 ≡ keyOf (labelsOf G) (termAt (tableOf ts st) b .symbol) (padded (arguments b)) + 1 =
-            key-at b l ∙ ap (λ (t : Bool). cond t (keyOf (labelsOf G) (termAt (tableOf ts st) b .symbol) (padded (arguments b)) + 1) 0) (passed (inUse ts ls b) (and-right (inUse ts ls a) (inUse ts ls b) both)) in
+        key-at b l ∙ ap (λ (t : Bool). cond t (keyOf (labelsOf G) (termAt (tableOf ts st) b .symbol) (padded (arguments b)) + 1) 0) (passed (inUse ts ls b) (and-right (inUse ts ls a) (inUse ts ls b) both)) in
         let one-key : getD keys a 0 ≡ getD keys b 0 =
-            key-a ∙
-            ap (λ (k : ℕ). k + 1)
-            (ap (λ (f : ℕ). keyOf (labelsOf G) f (padded (arguments a))) symbols ∙
-            key-agree (labelsOf G) (termAt (tableOf ts st) b .symbol) (padded (arguments a)) (padded (arguments b))
-            (padded-agree G (arguments a) (arguments b) (arguments-within a h) (arguments-within b l) joined-args)) ∙
-            sym key-b in
+        key-a ∙
+        ap (λ (k : ℕ). k + 1)
+        (ap (λ (f : ℕ). keyOf (labelsOf G) f (padded (arguments a))) symbols ∙
+        key-agree (labelsOf G) (termAt (tableOf ts st) b .symbol) (padded (arguments a)) (padded (arguments b))
+        (padded-agree G (arguments a) (arguments b) (arguments-within a h) (arguments-within b l) joined-args)) ∙
+        sym key-b in
         let shown-symbols : getD (s .symbols) a 0 ≡ getD (s .symbols) b 0 =
-            shown-symbol ts ls st s shows a (in-table a h) ∙ symbols ∙ sym (shown-symbol ts ls st s shows b (in-table b l)) in
+        shown-symbol ts ls st s shows a (in-table a h) ∙ symbols ∙ sym (shown-symbol ts ls st s shows b (in-table b l)) in
         let shown-apart : not (eqb (getD (s .labels) a 0) (getD (s .labels) b 0)) ≡ true =
-            ap₂ (λ (x y : ℕ). not (eqb x y)) (shown-label ts ls st s shows a (omega arith)) (shown-label ts ls st s shows b (omega arith)) ∙
-            passed apart (and-right (alike && args && used) apart d) in
+        ap₂ (λ (x y : ℕ). not (eqb x y)) (shown-label ts ls st s shows a (omega arith)) (shown-label ts ls st s shows b (omega arith)) ∙
+        passed apart (and-right (alike && args && used) apart d) in
         and-both (candidate keys (s .symbols) (s .labels) a b) _
         (is-candidate keys (s .symbols) (s .labels) a b (λ z. omega arith) one-key
         (ap₂ (λ (x y : Bool). x && y) (eq-eqb (getD (s .symbols) a 0) (getD (s .symbols) b 0) shown-symbols) shown-apart))
@@ -210,13 +208,13 @@ module _ (ts : List Term) (ls : List Literal) (st : State) (s : Arrays) (shows :
         let is = and-left found _ w in
         let parts = candidate-parts keys (s .symbols) (s .labels) a b is in
         let symbols : termAt (tableOf ts st) a .symbol ≡ termAt (tableOf ts st) b .symbol =
-            sym (shown-symbol ts ls st s shows a (in-table a h)) ∙ parts .2 ∙ shown-symbol ts ls st s shows b (in-table b l) in
+        sym (shown-symbol ts ls st s shows a (in-table a h)) ∙ parts .2 ∙ shown-symbol ts ls st s shows b (in-table b l) in
         let joined-args : T args = subst T (rows-joined a b h l (one-arity one a b h l symbols)) (and-right found _ w) in
         let both : T used = and-both (inUse ts ls a) (inUse ts ls b) (keyed a h (parts .0)) (keyed b l (λ z. parts .0 (parts .1 ∙ z))) in
         let labels-apart : T apart =
-            subst T
-            (ap₂ (λ (x y : ℕ). not (eqb x y)) (shown-label ts ls st s shows a (omega arith)) (shown-label ts ls st s shows b (omega arith)))
-            (parts .3) in
+        subst T
+        (ap₂ (λ (x y : ℕ). not (eqb x y)) (shown-label ts ls st s shows a (omega arith)) (shown-label ts ls st s shows b (omega arith)))
+        (parts .3) in
         and-both (alike && args && used) apart
         (and-both (alike && args) used (and-both alike args (passes alike (eq-eqb _ _ symbols)) joined-args) both) labels-apart
 

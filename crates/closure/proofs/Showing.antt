@@ -1,15 +1,15 @@
 -- The arrays go on showing the state: with one edge more, and with one term more.
-use mathlib.Core.Bool.{Bool, true, false, cond, _&&_}
-use mathlib.Core.List.{List, [], _∷_, _++_, map, map-append, append-assoc, append-nil}
-use mathlib.Core.Path.{_≡_, refl, sym, ap, ap₂, subst, _∙_}
-use Prim.Native.Nat.{ℕ, suc, _+_, _-_, _≤_, _<_, min}
+use mathlib.Core.Bool.{Bool, true, false, cond}
+use mathlib.Core.List.{List, [], _∷_, _++_, map, append-assoc}
+use mathlib.Core.Path.{_≡_, refl, sym, ap, ap₂, _∙_}
+use Prim.Native.Nat.{ℕ, suc, _+_, _-_, _<_}
 use native.Mathlib.Numerals.{add-one}
 use native.Mathlib.Omega.{arith}
 use borrow.Author.Tests.{le-ltb, lt-ltb}
 use lib.Dec.{T, eqb, ltb}
 use lib.ListN.{length, getD, take, set, replicate, length-append, List·getD-append}
 use lib.Seq.{getD-at, take-append-seam}
-use Rattle.tables.specs.Words.{below, every}
+use Rattle.tables.specs.Words.{every}
 use Rattle.tables.specs.Terms.{Term, noTerm, termAt, LowerArguments, symbols}
 use Rattle.tables.specs.LiteralTable.{Literal}
 use Rattle.tables.specs.declared.Side.{Side}
@@ -173,22 +173,22 @@ shows-term ts ls st s m symbol arity row small h lower symbol-is arity-is row-is
       within = omega (arith, length-more ts ls st m);
       terms = ap (λ (k : ℕ). k + 1) (h .terms) ∙ sym (length-more ts ls st m);
       symbols =
-        ap₂ (λ (xs : List ℕ) (k : ℕ). set xs k symbol) (h .symbols) (h .terms) ∙
-        column-more ts ls st m 0 _ (λ v. termAt more v .symbol) symbol fits (λ k l. ap (λ (t : Term). t .symbol) (before k l)) (sym symbol-is ∙ ap (λ (t : Term). t .symbol) new);
+          ap₂ (λ (xs : List ℕ) (k : ℕ). set xs k symbol) (h .symbols) (h .terms) ∙
+          column-more ts ls st m 0 _ (λ v. termAt more v .symbol) symbol fits (λ k l. ap (λ (t : Term). t .symbol) (before k l)) (sym symbol-is ∙ ap (λ (t : Term). t .symbol) new);
       arities =
-        ap₂ (λ (xs : List ℕ) (k : ℕ). set xs k arity) (h .arities) (h .terms) ∙
-        column-more ts ls st m 0 _ (λ v. length (termAt more v .arguments)) arity fits (λ k l. ap (λ (t : Term). length (t .arguments)) (before k l)) (sym arity-is ∙ ap (λ (t : Term). length (t .arguments)) new);
+          ap₂ (λ (xs : List ℕ) (k : ℕ). set xs k arity) (h .arities) (h .terms) ∙
+          column-more ts ls st m 0 _ (λ v. length (termAt more v .arguments)) arity fits (λ k l. ap (λ (t : Term). length (t .arguments)) (before k l)) (sym arity-is ∙ ap (λ (t : Term). length (t .arguments)) new);
       rows =
-        ap₂ (λ (xs : List Row) (k : ℕ). set xs k row) (h .rows) (h .terms) ∙
-        column-more ts ls st m (rowFor []) _ (λ v. rowFor (termAt more v .arguments)) row fits (λ k l. ap (λ (t : Term). rowFor (t .arguments)) (before k l)) (row-new ∙ ap (λ (t : Term). rowFor (t .arguments)) new);
+          ap₂ (λ (xs : List Row) (k : ℕ). set xs k row) (h .rows) (h .terms) ∙
+          column-more ts ls st m (rowFor []) _ (λ v. rowFor (termAt more v .arguments)) row fits (λ k l. ap (λ (t : Term). rowFor (t .arguments)) (before k l)) (row-new ∙ ap (λ (t : Term). rowFor (t .arguments)) new);
       colours =
-        ap₂ (λ (xs : List ℕ) (k : ℕ). set xs k 3) (h .colours) (h .terms) ∙
-        column-more ts ls st m 0 _ (colourNumber ts ls more) 3 fits
-        (λ k l. sym (ap (λ (table : List Term). colourNumber ts ls table k) (table-more ts ls st m) ∙ number-append ts ls (tableOf ts st) (m ∷ []) lower k l))
-        (sym (ap (λ (table : List Term). colourNumber ts ls table n) (table-more ts ls st m) ∙ shared-number ts ls (tableOf ts st ++ (m ∷ [])) n shared-is));
+          ap₂ (λ (xs : List ℕ) (k : ℕ). set xs k 3) (h .colours) (h .terms) ∙
+          column-more ts ls st m 0 _ (colourNumber ts ls more) 3 fits
+          (λ k l. sym (ap (λ (table : List Term). colourNumber ts ls table k) (table-more ts ls st m) ∙ number-append ts ls (tableOf ts st) (m ∷ []) lower k l))
+          (sym (ap (λ (table : List Term). colourNumber ts ls table n) (table-more ts ls st m) ∙ shared-number ts ls (tableOf ts st ++ (m ∷ [])) n shared-is));
       vertices =
-        ap₂ (λ (xs : List Bool) (k : ℕ). set xs k true) (h .vertices) (h .terms) ∙
-        column-more ts ls st m false _ (vertex ts ls (withTerm st m)) true fits (vertex-before ts ls st m) (vertex-new ts ls st m);
+          ap₂ (λ (xs : List Bool) (k : ℕ). set xs k true) (h .vertices) (h .terms) ∙
+          column-more ts ls st m false _ (vertex ts ls (withTerm st m)) true fits (vertex-before ts ls st m) (vertex-new ts ls st m);
       edges = h .edges;
       count = h .count;
       labels = h .labels;

@@ -5,7 +5,7 @@ use Prim.Native.Nat.{ℕ}
 use Rattle.tables.specs.Checks.{checked}
 use Rattle.tables.specs.TermTable.{termsOf}
 use Rattle.tables.specs.LiteralTable.{literalsOf}
-use Rattle.tables.specs.Read.{tablesRead, argumentRows}
+use Rattle.tables.specs.Read.{tablesRead}
 use Rattle.tables.specs.declared.Check.the-variants.{Sound}
 use Rattle.tables.specs.declared.Tables.{Tables}
 use Rattle.closure.specs.Steps.{begin}

@@ -16,7 +16,14 @@ ghost use Rattle.closure.specs.Shown.{Shows};
 ghost use Rattle.closure.specs.Keys.{candidate, NextFrom, pairOf, Orderly, OneArity};
 
 // The next term from a place on that may be a partner of s: the rows are not looked at.
-fn partner(keys: &[u64; 256], symbols: &[u16; 511], labels: &[u16; 511], given: usize, s: usize, from: usize) -> Partner
+fn partner(
+    keys: &[u64; 256],
+    symbols: &[u16; 511],
+    labels: &[u16; 511],
+    given: usize,
+    s: usize,
+    from: usize,
+) -> Partner
     requires { ⌜ (given ≤ 256) × (s < given) ⌝ }
     ensures { λ r. ⌜ NextFrom (candidate (now (keys .entry)) (now (symbols .entry)) (now (labels .entry)) s) from given r ⌝ }
 {

@@ -1,16 +1,13 @@
+-- `closure::congruence::congruent` meets its contract. The invariant: the fields passed have the same labels. The measure is what is left of them.
 use mathlib.Core.Path.{_≡_, sym, _∙_}
 use Prim.Native.Nat.{ℕ, _-_, _≤_, _<_}
 use native.Mathlib.Nat.{not-suc-le-zero}
 use native.Mathlib.Omega.{arith}
-use borrow.Author.Needs.{needs}
 use borrow.Author.Count.{below-more}
 use Rattle.closure.specs.Keys.{fieldLabel}
 use Rattle.closure.proofs.Agreeing.{fields-joined, fields-apart}
 use Rattle.closure.proofs.congruence.congruent.Statement.{statement}
 use Rattle.closure.proofs.congruence.congruent.Tie as tie
-use Rattle.closure.proofs.congruence.congruent.Reads as reads
-use Rattle.closure.proofs.congruence.congruent.Lts as lts
-use Rattle.closure.proofs.congruence.field_label.Reads as field-label-reads
 
 abbrev Inv-loop : tie.InvT-loop
 Inv-loop labels arity s t of-s of-t j₀ j =
@@ -19,56 +16,45 @@ Inv-loop labels arity s t of-s of-t j₀ j =
 abbrev μ-loop : tie.MeasureT-loop
 μ-loop labels arity s t of-s of-t j₀ j = arity - j
 
--- src/congruence.rt:25:16
 mul-of-s : tie.Need-mul-of-s Inv-loop μ-loop
 mul-of-s c = omega arith
 
--- src/congruence.rt:25:16
 array-copy-out-of-s : tie.Need-array-copy-out-of-s Inv-loop μ-loop
 array-copy-out-of-s c = omega arith
 
--- src/congruence.rt:26:16
 mul-of-t : tie.Need-mul-of-t Inv-loop μ-loop
 mul-of-t c = omega arith
 
--- src/congruence.rt:26:16
 array-copy-out-of-t : tie.Need-array-copy-out-of-t Inv-loop μ-loop
 array-copy-out-of-t c = omega arith
 
--- src/congruence.rt:28:5
 loop-holds : tie.Need-loop-holds Inv-loop μ-loop
 loop-holds c = (omega arith, λ k h. absurd (not-suc-le-zero h))
 
--- src/congruence.rt:29:12
 field-label-requires : tie.Need-field-label-requires Inv-loop μ-loop
 field-label-requires c κs = (omega arith, c .before .before .before .before .pre .3 (c .before .before .before .before .args .s) (c .before .before .before .before .pre .0))
 
--- src/congruence.rt:29:44
 field-label-requires-2 : tie.Need-field-label-requires-2 Inv-loop μ-loop
 field-label-requires-2 c κs = (omega arith, c .before .before .before .before .before .pre .3 (c .before .before .before .before .before .args .t) (c .before .before .before .before .before .pre .1))
 
--- src/congruence.rt:30:13
 returns : tie.Need-returns Inv-loop μ-loop
 returns c G e =
     let start = c .before .before .before .before .before .before .before in
     fields-apart G _ e (start .args .arity) _ _ (start .pre .3 (start .args .s) (start .pre .0)) (start .pre .3 (start .args .t) (start .pre .1)) (start .pre .2) (c .before .before .before .before .loop .j) (c .before .before .before .loop-test .taken)
     (λ q. c .if1 .taken (c .before .before .field-label .ensures .0 ∙ q ∙ sym (c .before .field-label2 .ensures .0)))
 
--- src/congruence.rt:32:9
 add-j : tie.Need-add-j Inv-loop μ-loop
 add-j c = omega arith
 
--- src/congruence.rt:28:5
 loop-less : tie.Need-loop-less Inv-loop μ-loop
 loop-less c = omega arith
 
--- src/congruence.rt:28:5
 loop-again : tie.Need-loop-again Inv-loop μ-loop
-loop-again c =
-    (omega arith,
-    below-more _ _ (c .before .before .before .before .loop .inv .1) (sym (c .before .before .field-label .ensures .0) ∙ c .if1 .left ∙ c .before .field-label2 .ensures .0))
+loop-again c = (
+  omega arith,
+  below-more _ _ (c .before .before .before .before .loop .inv .1) (sym (c .before .before .field-label .ensures .0) ∙ c .if1 .left ∙ c .before .field-label2 .ensures .0),
+)
 
--- src/congruence.rt:21:1
 returns-2 : tie.Need-returns-2 Inv-loop μ-loop
 returns-2 c G e =
     let start = c .before .before .before .before in

@@ -1,36 +1,27 @@
+-- `closure::congruence::field_label` meets its contract: the row's field is within the array of labels.
 use native.Mathlib.Omega.{arith}
 use borrow.Author.Needs.{needs}
 use Rattle.closure.proofs.congruence.field_label.Statement.{statement}
 use Rattle.closure.proofs.congruence.field_label.Tie as tie
-use Rattle.closure.proofs.congruence.field_label.Reads as reads
-use Rattle.closure.proofs.congruence.field_label.Lts as lts
-use Rattle.closure.proofs.congruence.digit.Reads as digit-reads
 
--- src/congruence.rt:23:14
 mul-at : tie.Need-mul-at
 mul-at c = search needs
 
--- src/congruence.rt:23:14
 element-copy-out-at : tie.Need-element-copy-out-at
 element-copy-out-at c = search needs
 
--- src/congruence.rt:23:14
 cast-at : tie.Need-cast-at
 cast-at c = search needs
 
--- src/congruence.rt:24:11
 mul-digit : tie.Need-mul-digit
 mul-digit c = omega (arith, c .before .pre .1 .1 (c .before .args .j) (c .before .pre .0))
 
--- src/congruence.rt:24:11
 element-copy-out-digit : tie.Need-element-copy-out-digit
 element-copy-out-digit c = omega (arith, c .before .pre .1 .1 (c .before .args .j) (c .before .pre .0))
 
--- src/congruence.rt:24:5
 digit-requires : tie.Need-digit-requires
 digit-requires c κs = search needs
 
--- src/congruence.rt:19:1
 returns : tie.Need-returns
 returns c = search needs
 

@@ -1,9 +1,9 @@
-use mathlib.Core.Bool.{Bool, false, cond}
+-- `closure::congruence::keys` meets its contract. The invariant: the keys of the terms passed are written. The measure is what is left of them.
+use mathlib.Core.Bool.{false, cond}
 use mathlib.Core.Logic.{⊎-elim}
-use mathlib.Core.Path.{_≡_, refl, sym, ap, _∙_}
-use Prim.Native.Nat.{ℕ, _+_, _-_, _≤_, _<_}
+use mathlib.Core.Path.{_∙_}
+use Prim.Native.Nat.{_+_, _-_}
 use native.Mathlib.Omega.{arith}
-use borrow.Author.Needs.{needs}
 use lib.ListN.{getD}
 use Rattle.tables.proofs.Records.{Filling, filling-none, filling-more, filling-all}
 use Rattle.closure.specs.Keys.{noRow, keyOf, keysOf}
@@ -11,9 +11,6 @@ use Rattle.closure.proofs.Arrays.{filling-kept}
 use Rattle.closure.proofs.Agreeing.{key-place, no-key}
 use Rattle.closure.proofs.congruence.keys.Statement.{statement}
 use Rattle.closure.proofs.congruence.keys.Tie as tie
-use Rattle.closure.proofs.congruence.keys.Reads as reads
-use Rattle.closure.proofs.congruence.keys.Lts as lts
-use Rattle.closure.proofs.congruence.key.Reads as key-reads
 
 abbrev Inv-loop : tie.InvT-loop
 Inv-loop given vertices symbols labels rows all₀ t₀ all t =
@@ -22,55 +19,42 @@ Inv-loop given vertices symbols labels rows all₀ t₀ all t =
 abbrev μ-loop : tie.MeasureT-loop
 μ-loop given vertices symbols labels rows all₀ t₀ all t = given - t
 
--- src/congruence.rt:62:5
 loop-holds : tie.Need-loop-holds Inv-loop μ-loop
 loop-holds c = filling-none 256 0 _ _
 
--- src/congruence.rt:63:12
 element-copy-out-if1 : tie.Need-element-copy-out-if1 Inv-loop μ-loop
 element-copy-out-if1 c = omega arith
 
--- src/congruence.rt:64:26
 mul-key : tie.Need-mul-key Inv-loop μ-loop
 mul-key c = omega arith
 
--- src/congruence.rt:64:26
 element-copy-out-key : tie.Need-element-copy-out-key Inv-loop μ-loop
 element-copy-out-key c = omega arith
 
--- src/congruence.rt:64:38
 mul-key-2 : tie.Need-mul-key-2 Inv-loop μ-loop
 mul-key-2 c = omega arith
 
--- src/congruence.rt:64:38
 array-copy-out-key : tie.Need-array-copy-out-key Inv-loop μ-loop
 array-copy-out-key c = omega arith
 
--- src/congruence.rt:64:22
 key-requires : tie.Need-key-requires Inv-loop μ-loop
 key-requires c κs = c .before .before .before .before .before .before .pre .1 (c .before .before .before .before .before .loop .t) (omega arith)
 
--- src/congruence.rt:64:22
 add-all : tie.Need-add-all Inv-loop μ-loop
 add-all c = omega arith
 
--- src/congruence.rt:64:13
 mul-all : tie.Need-mul-all Inv-loop μ-loop
 mul-all c = omega arith
 
--- src/congruence.rt:64:13
 array-write-all : tie.Need-array-write-all Inv-loop μ-loop
 array-write-all c = omega arith
 
--- src/congruence.rt:66:9
 add-t : tie.Need-add-t Inv-loop μ-loop
 add-t c = omega arith
 
--- src/congruence.rt:62:5
 loop-less : tie.Need-loop-less Inv-loop μ-loop
 loop-less c = omega arith
 
--- src/congruence.rt:62:5
 loop-again : tie.Need-loop-again Inv-loop μ-loop
 loop-again c =
     let inv = c .before .before .before .loop .inv in
@@ -79,7 +63,6 @@ loop-again c =
     (λ w. let r = filling-kept _ _ _ _ _ _ (omega arith) inv (c .before .before .loop-test .taken) (no-key _ _ (w .0 .left)) in (r .0, w .1 ∙ r .1))
     (c .if1 .came)
 
--- src/congruence.rt:50:1
 returns : tie.Need-returns Inv-loop μ-loop
 unfolding keysOf
 returns c = filling-all _ _ _ _ _ _ _ (omega arith) (c .before .loop .inv) (c .loop-test .left)

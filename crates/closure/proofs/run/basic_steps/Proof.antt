@@ -1,8 +1,8 @@
+-- `closure::run::basic_steps` meets its contract. The invariant: the arrays show the state after the records passed. The measure is what is left of them.
 use mathlib.Core.Logic.{⊎-elim}
-use mathlib.Core.Path.{_≡_, sym, subst}
-use Prim.Native.Nat.{ℕ, _+_, _*_, _-_, _≤_, _<_}
+use mathlib.Core.Path.{sym, subst}
+use Prim.Native.Nat.{_+_, _-_, _≤_}
 use native.Mathlib.Omega.{arith}
-use borrow.Author.Needs.{needs}
 use Rattle.tables.specs.TermTable.{termsOf}
 use Rattle.tables.specs.LiteralTable.{literalsOf}
 use Rattle.closure.specs.declared.state.State.{State as Arrays}
@@ -10,10 +10,6 @@ use Rattle.closure.specs.Opening.{ReadFrom, Opens}
 use Rattle.closure.proofs.BasicSteps.{ShowsAfter, literals-fit, sides-small, after-none, after-all, after-edges, turn-taken, turn-left}
 use Rattle.closure.proofs.run.basic_steps.Statement.{statement}
 use Rattle.closure.proofs.run.basic_steps.Tie as tie
-use Rattle.closure.proofs.run.basic_steps.Reads as reads
-use Rattle.closure.proofs.run.basic_steps.Lts as lts
-use Rattle.closure.proofs.run.side_of.Reads as side-of-reads
-use Rattle.closure.proofs.state.State.with_edge.Reads as with-edge-reads
 
 abbrev Inv-loop : tie.InvT-loop
 Inv-loop t count st₀ i₀ st i = (i ≤ count) × ((from : ReadFrom t) → Opens from st₀ → ShowsAfter t from i st)
@@ -21,63 +17,48 @@ Inv-loop t count st₀ i₀ st i = (i ≤ count) × ((from : ReadFrom t) → Ope
 abbrev μ-loop : tie.MeasureT-loop
 μ-loop t count st₀ i₀ st i = count - i
 
--- src/run.rt:68:5
 loop-holds : tie.Need-loop-holds Inv-loop μ-loop
 loop-holds c = (omega arith, λ from h. after-none _ from _ h)
 
--- src/run.rt:69:20
 mul-left : tie.Need-mul-left Inv-loop μ-loop
 mul-left c = omega (arith, literals-fit (c .before .before .args .t1) (c .before .before .pre .0))
 
--- src/run.rt:69:20
 element-copy-out-left : tie.Need-element-copy-out-left Inv-loop μ-loop
 element-copy-out-left c = omega (arith, literals-fit (c .before .before .args .t1) (c .before .before .pre .0))
 
--- src/run.rt:70:21
 mul-right : tie.Need-mul-right Inv-loop μ-loop
 mul-right c = omega (arith, literals-fit (c .before .before .before .args .t1) (c .before .before .before .pre .0))
 
--- src/run.rt:70:21
 element-copy-out-right : tie.Need-element-copy-out-right Inv-loop μ-loop
 element-copy-out-right c = omega (arith, literals-fit (c .before .before .before .args .t1) (c .before .before .before .pre .0))
 
--- src/run.rt:72:13
 element-copy-out-if1 : tie.Need-element-copy-out-if1 Inv-loop μ-loop
 element-copy-out-if1 c = omega (arith, literals-fit (c .before .before .before .before .before .args .t1) (c .before .before .before .before .before .pre .0))
 
--- src/run.rt:72:40
 cast-if1 : tie.Need-cast-if1 Inv-loop μ-loop
 cast-if1 c = omega (arith, sides-small (c .before .before .before .before .before .before .args .t1) (c .before .before .before .before .before .before .pre .0) (c .before .before .before .before .before .loop .i) (c .before .before .before .before .loop-test .taken) .0)
 
--- src/run.rt:72:33
 mul-if1 : tie.Need-mul-if1 Inv-loop μ-loop
 mul-if1 c = omega (arith, sides-small (c .before .before .before .before .before .before .args .t1) (c .before .before .before .before .before .before .pre .0) (c .before .before .before .before .before .loop .i) (c .before .before .before .before .loop-test .taken) .0)
 
--- src/run.rt:72:33
 array-read-if1 : tie.Need-array-read-if1 Inv-loop μ-loop
 array-read-if1 c = omega (arith, sides-small (c .before .before .before .before .before .before .args .t1) (c .before .before .before .before .before .before .pre .0) (c .before .before .before .before .before .loop .i) (c .before .before .before .before .loop-test .taken) .0)
 
--- src/run.rt:72:65
 cast-if1-2 : tie.Need-cast-if1-2 Inv-loop μ-loop
 cast-if1-2 c = omega (arith, sides-small (c .before .before .before .before .before .before .args .t1) (c .before .before .before .before .before .before .pre .0) (c .before .before .before .before .before .loop .i) (c .before .before .before .before .loop-test .taken) .1)
 
--- src/run.rt:72:58
 mul-if1-2 : tie.Need-mul-if1-2 Inv-loop μ-loop
 mul-if1-2 c = omega (arith, sides-small (c .before .before .before .before .before .before .args .t1) (c .before .before .before .before .before .before .pre .0) (c .before .before .before .before .before .loop .i) (c .before .before .before .before .loop-test .taken) .1)
 
--- src/run.rt:72:58
 array-read-if1-2 : tie.Need-array-read-if1-2 Inv-loop μ-loop
 array-read-if1-2 c = omega (arith, sides-small (c .before .before .before .before .before .before .args .t1) (c .before .before .before .before .before .before .pre .0) (c .before .before .before .before .before .loop .i) (c .before .before .before .before .loop-test .taken) .1)
 
--- src/run.rt:73:32
 element-copy-out-side-of : tie.Need-element-copy-out-side-of Inv-loop μ-loop
 element-copy-out-side-of c = omega (arith, literals-fit (c .before .before .before .before .before .before .before .args .t1) (c .before .before .before .before .before .before .before .pre .0))
 
--- src/run.rt:73:17
 side-of-requires : tie.Need-side-of-requires Inv-loop μ-loop
 side-of-requires c κs = tt
 
--- src/run.rt:74:13
 with-edge-requires : tie.Need-with-edge-requires Inv-loop μ-loop
 with-edge-requires c κs =
     let start = c .before .before .before .before .before .before .before .before .before in
@@ -86,29 +67,26 @@ with-edge-requires c κs =
     let sides = sides-small (start .args .t1) (start .pre .0) i more in
     (omega (arith, sides .0), omega (arith, sides .1), omega (arith, after-edges (start .args .t1) (start .pre .0) i _ (c .before .before .before .before .before .before .before .before .loop .inv .1 (start .pre .0) (start .pre .1)) more))
 
--- src/run.rt:76:9
 add-i : tie.Need-add-i Inv-loop μ-loop
 add-i c = omega arith
 
--- src/run.rt:68:5
 loop-less : tie.Need-loop-less Inv-loop μ-loop
 loop-less c = omega arith
 
--- src/run.rt:68:5
 loop-again : tie.Need-loop-again Inv-loop μ-loop
-loop-again c = 
+loop-again c =
     let start = c .before .before .before .before .before .before .before in
     let more = c .before .before .before .before .before .loop-test .taken in
     let i = c .before .before .before .before .before .before .loop .i in
-    let inv = c .before .before .before .before .before .before .loop .inv .1 in
-    (omega arith,
-    λ from h. ⊎-elim
-    (λ w. subst (λ (s : Arrays). ShowsAfter (start .args .t1) from (i + 1) s) (sym (w .4))
-    (turn-taken (start .args .t1) from i more _ (inv from h) (w .0 .taken) (w .2 .result) (w .2 .ensures) (w .3 .result) (λ st shows. w .3 .ensures (termsOf (from .terms)) (literalsOf (from .literals)) st shows)))
-    (λ w. subst (λ (s : Arrays). ShowsAfter (start .args .t1) from (i + 1) s) (sym (w .1)) (turn-left (start .args .t1) from i more _ (inv from h) (w .0 .left)))
-    (c .if1 .came))
+    let inv = c .before .before .before .before .before .before .loop .inv .1 in (
+      omega arith,
+      λ from h. ⊎-elim
+          (λ w. subst (λ (s : Arrays). ShowsAfter (start .args .t1) from (i + 1) s) (sym (w .4))
+          (turn-taken (start .args .t1) from i more _ (inv from h) (w .0 .taken) (w .2 .result) (w .2 .ensures) (w .3 .result) (λ st shows. w .3 .ensures (termsOf (from .terms)) (literalsOf (from .literals)) st shows)))
+          (λ w. subst (λ (s : Arrays). ShowsAfter (start .args .t1) from (i + 1) s) (sym (w .1)) (turn-left (start .args .t1) from i more _ (inv from h) (w .0 .left)))
+          (c .if1 .came),
+    )
 
--- src/run.rt:61:1
 returns : tie.Need-returns Inv-loop μ-loop
 returns c from h = after-all _ from _ _ (c .before .loop .inv .1 from h) (c .loop-test .left)
 

@@ -1,14 +1,11 @@
+-- `closure::run::side_of` meets its contract: each answer is the one that its test picks.
 use borrow.Author.Tests.{eq-eqb, ne-eqb}
 use Rattle.closure.proofs.run.side_of.Statement.{statement}
 use Rattle.closure.proofs.run.side_of.Tie as tie
-use Rattle.closure.proofs.run.side_of.Reads as reads
-use Rattle.closure.proofs.run.side_of.Lts as lts
 
--- src/run.rt:54:1
 returns : tie.Need-returns
 returns c = simp (eq-eqb _ _ (c .if1 .taken))
 
--- src/run.rt:54:1
 returns-2 : tie.Need-returns-2
 returns-2 c = simp (ne-eqb _ _ (c .if1 .left))
 

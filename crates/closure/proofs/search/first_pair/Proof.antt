@@ -1,5 +1,7 @@
+-- `closure::search::first_pair` meets its contract. The invariant: no pair before that of s and from passes the test, for every graph of which the array
+-- holds the labels. The measure is what is left of the first terms, and then of the second ones.
 use mathlib.Core.Bool.{Bool}
-use mathlib.Core.Path.{_≡_, sym, subst, _∙_}
+use mathlib.Core.Path.{_≡_, subst}
 use Prim.Native.Nat.{ℕ, _+_, _*_, _-_, _≤_, _<_}
 use native.Mathlib.Omega.{arith}
 use borrow.Author.Needs.{needs}
@@ -12,11 +14,6 @@ use Rattle.closure.specs.declared.Partner.the-variants.{At, Nothing}
 use Rattle.closure.proofs.PairTest.{NoneBefore, before-start, before-found, before-past, before-next, tested, found-first, found-none, tested-candidate, rows-refuse, rows-accept}
 use Rattle.closure.proofs.search.first_pair.Statement.{statement}
 use Rattle.closure.proofs.search.first_pair.Tie as tie
-use Rattle.closure.proofs.search.first_pair.Reads as reads
-use Rattle.closure.proofs.search.first_pair.Lts as lts
-use Rattle.closure.proofs.congruence.congruent.Reads as congruent-reads
-use Rattle.closure.proofs.congruence.keys.Reads as keys-reads
-use Rattle.closure.proofs.search.partner.Reads as partner-reads
 
 abbrev Inv-loop : tie.InvT-loop
 Inv-loop given labels rows symbols arities keys s₀ from₀ s from =
@@ -32,37 +29,29 @@ at-found c = subst (NextFrom _ _ _) (c .found .given .1) (c .before .before .par
 nothing-found : (p : ℕ → Bool) (from n : ℕ) (r : Partner) → NextFrom p from n r → r ≡ Nothing → (k : ℕ) → from ≤ k → k < n → T (p k) → ⊥
 nothing-found p from n r h e = subst (NextFrom p from n) e h
 
--- src/search.rt:49:16
 keys-requires : tie.Need-keys-requires Inv-loop μ-loop
 keys-requires c κs = (c .before .before .before .before .before .before .before .before .pre .0, c .before .before .before .before .before .before .before .before .pre .1 .rows)
 
--- src/search.rt:52:5
 loop-holds : tie.Need-loop-holds Inv-loop μ-loop
 loop-holds c = (omega arith, omega arith, λ G e. before-start _ (tested (c .keys .result) (c .before .before .before .before .before .before .before .before .before .args .st .symbols) (c .before .before .before .before .before .before .before .before .before .args .st .labels) (c .before .before .before .before .before .before .before .before .before .args .st .arities) (c .before .before .before .before .before .before .before .before .before .args .st .rows) G))
 
--- src/search.rt:53:13
 partner-requires : tie.Need-partner-requires Inv-loop μ-loop
 partner-requires c κs = omega arith
 
--- src/search.rt:54:28
 enum-known-found : tie.Need-enum-known-found Inv-loop μ-loop
 enum-known-found c = search needs
 
--- src/search.rt:55:53
 array-read-congruent : tie.Need-array-read-congruent Inv-loop μ-loop
 array-read-congruent c = omega arith
 
--- src/search.rt:55:53
 cast-congruent : tie.Need-cast-congruent Inv-loop μ-loop
 cast-congruent c = omega (arith, c .before .before .before .before .before .before .before .before .before .before .before .before .before .before .before .before .before .before .before .pre .1 .arities (c .before .before .before .before .before .before .before .before .before .loop .s) (omega arith))
 
--- src/search.rt:55:16
 congruent-requires : tie.Need-congruent-requires Inv-loop μ-loop
 congruent-requires c κs =
     let found = at-found (c .before .before) in
     (omega arith, omega (arith, found .1), c .before .before .before .before .before .before .before .before .before .before .before .before .before .before .before .before .before .before .before .pre .1 .arities (c .before .before .before .before .before .before .before .before .before .loop .s) (omega arith), c .before .before .before .before .before .before .before .before .before .before .before .before .before .before .before .before .before .before .before .pre .1 .rows)
 
--- src/search.rt:56:17
 returns : tie.Need-returns Inv-loop μ-loop
 returns c ts ls reached shows all one =
     let start = c .before .before .before .before .before .before .before .before .before .before .before .before .before .before .before .before .before .before .before .before .before in
@@ -78,15 +67,12 @@ returns c ts ls reached shows all one =
     (before-found (start .args .given) (tested keys (st .symbols) (st .labels) (st .arities) (st .rows) (reached .graph)) s _ (inv .2 (reached .graph) (shows .labels)) t
     (λ k l h q. found .3 k l h (tested-candidate keys (st .symbols) (st .labels) (st .arities) (st .rows) (reached .graph) s k q)))
 
--- src/search.rt:58:20
 add-from : tie.Need-add-from Inv-loop μ-loop
 add-from c = omega (arith, at-found (c .before .before .before .before) .1)
 
--- src/search.rt:52:5
 loop-less : tie.Need-loop-less Inv-loop μ-loop
 loop-less c = omega (arith, at-found (c .before .before .before .before) .0, at-found (c .before .before .before .before) .1, c .before .before .before .before .before .before .before .before .before .before .before .loop .inv .1)
 
--- src/search.rt:52:5
 loop-again : tie.Need-loop-again Inv-loop μ-loop
 loop-again c =
     let start = c .before .before .before .before .before .before .before .before .before .before .before .before .before .before .before .before .before .before .before .before .before in
@@ -95,30 +81,26 @@ loop-again c =
     let st = start .args .st in
     let keys = c .before .before .before .before .before .before .before .before .before .before .before .before .keys .result in
     let s = c .before .before .before .before .before .before .before .before .before .before .before .loop .s in
-    let t = c .before .before .before .before .found .given .0 .0 in
-    (omega (arith, found .0, inv .0),
-    omega (arith, found .1, start .pre .0),
-    λ G e. before-past (start .args .given) (tested keys (st .symbols) (st .labels) (st .arities) (st .rows) G) s _ (inv .2 G e) t
-    (λ k l h q. found .3 k l h (tested-candidate keys (st .symbols) (st .labels) (st .arities) (st .rows) G s k q))
-    (rows-refuse keys (st .symbols) (st .labels) (st .arities) (st .rows) G s t _ (c .before .congruent .ensures G e) (c .if1 .left)))
+    let t = c .before .before .before .before .found .given .0 .0 in (
+      omega (arith, found .0, inv .0),
+      omega (arith, found .1, start .pre .0),
+      λ G e. before-past (start .args .given) (tested keys (st .symbols) (st .labels) (st .arities) (st .rows) G) s _ (inv .2 G e) t
+          (λ k l h q. found .3 k l h (tested-candidate keys (st .symbols) (st .labels) (st .arities) (st .rows) G s k q))
+          (rows-refuse keys (st .symbols) (st .labels) (st .arities) (st .rows) G s t _ (c .before .congruent .ensures G e) (c .if1 .left)),
+    )
 
--- src/search.rt:60:13
 enum-told : tie.Need-enum-told Inv-loop μ-loop
 enum-told c = search needs
 
--- src/search.rt:60:13
 add-s : tie.Need-add-s Inv-loop μ-loop
 add-s c = omega arith
 
--- src/search.rt:61:20
 add-from-2 : tie.Need-add-from-2 Inv-loop μ-loop
 add-from-2 c = omega arith
 
--- src/search.rt:52:5
 loop-less-2 : tie.Need-loop-less-2 Inv-loop μ-loop
 loop-less-2 c = omega arith
 
--- src/search.rt:52:5
 loop-again-2 : tie.Need-loop-again-2 Inv-loop μ-loop
 loop-again-2 c =
     let start = c .before .before .before .before .before .before .before .before .before .before .before .before .before .before .before .before .before in
@@ -126,13 +108,13 @@ loop-again-2 c =
     let inv = c .before .before .before .before .before .before .before .loop .inv in
     let st = start .args .st in
     let keys = c .before .before .before .before .before .before .before .before .keys .result in
-    let s = c .before .before .before .before .before .before .before .loop .s in
-    (omega arith,
-    omega (arith, start .pre .0),
-    λ G e. before-next (start .args .given) (tested keys (st .symbols) (st .labels) (st .arities) (st .rows) G) s _ (inv .2 G e)
-    (λ k l h q. none-left k l h (tested-candidate keys (st .symbols) (st .labels) (st .arities) (st .rows) G s k q)))
+    let s = c .before .before .before .before .before .before .before .loop .s in (
+      omega arith,
+      omega (arith, start .pre .0),
+      λ G e. before-next (start .args .given) (tested keys (st .symbols) (st .labels) (st .arities) (st .rows) G) s _ (inv .2 G e)
+          (λ k l h q. none-left k l h (tested-candidate keys (st .symbols) (st .labels) (st .arities) (st .rows) G s k q)),
+    )
 
--- src/search.rt:40:1
 returns-2 : tie.Need-returns-2 Inv-loop μ-loop
 returns-2 c ts ls reached shows all one =
     let start = c .before .before .before .before .before .before .before .before .before .before .before in

@@ -1,37 +1,27 @@
+-- `closure::state::State::with_edge` meets its contract: the graph and the labels are those of one edge more, and nothing else changes.
 use borrow.Author.Needs.{needs}
 use Rattle.closure.proofs.Showing.{shows-edge}
 use Rattle.closure.proofs.state.State.with_edge.Statement.{statement}
 use Rattle.closure.proofs.state.State.with_edge.Tie as tie
-use Rattle.closure.proofs.state.State.with_edge.Reads as reads
-use Rattle.closure.proofs.state.State.with_edge.Lts as lts
-use Rattle.closure.proofs.graph.Graph.with_edge.Reads as with-edge-reads
-use Rattle.closure.proofs.labels.relabelled.Reads as relabelled-reads
 
--- src/state.rt:39:20
 mul-from : tie.Need-mul-from
 mul-from c = search needs
 
--- src/state.rt:39:20
 array-read-from : tie.Need-array-read-from
 array-read-from c = search needs
 
--- src/state.rt:40:18
 mul-to : tie.Need-mul-to
 mul-to c = search needs
 
--- src/state.rt:40:18
 array-read-to : tie.Need-array-read-to
 array-read-to c = search needs
 
--- src/state.rt:41:13
 relabelled-requires : tie.Need-relabelled-requires
 relabelled-requires c κs = search needs
 
--- src/state.rt:43:13
 with-edge-requires : tie.Need-with-edge-requires
 with-edge-requires c κs = search needs
 
--- src/state.rt:34:5
 returns : tie.Need-returns
 returns c ts ls st h = shows-edge ts ls st _ h _ _ _ _ _ _ (search needs) (search needs) (c .with-edge .ensures .0) (c .with-edge .ensures .1) (c .before .before .relabelled .ensures)
 

@@ -1,43 +1,33 @@
+-- `closure::state::State::with_term` meets its contract: each array has one place more.
 use borrow.Author.Needs.{needs}
 use Rattle.closure.proofs.Showing.{shows-term}
 use Rattle.closure.proofs.state.State.with_term.Statement.{statement}
 use Rattle.closure.proofs.state.State.with_term.Tie as tie
-use Rattle.closure.proofs.state.State.with_term.Reads as reads
-use Rattle.closure.proofs.state.State.with_term.Lts as lts
 
--- src/state.rt:60:9
 mul-self : tie.Need-mul-self
 mul-self c = search needs
 
--- src/state.rt:60:9
 element-write-self : tie.Need-element-write-self
 element-write-self c = search needs
 
--- src/state.rt:61:9
 element-write-self-2 : tie.Need-element-write-self-2
 element-write-self-2 c = search needs
 
--- src/state.rt:62:9
 mul-row : tie.Need-mul-row
 mul-row c = search needs
 
--- src/state.rt:62:9
 element-set-from-row : tie.Need-element-set-from-row
 element-set-from-row c = search needs
 
--- src/state.rt:63:9
 element-write-self-3 : tie.Need-element-write-self-3
 element-write-self-3 c = search needs
 
--- src/state.rt:64:9
 element-write-self-4 : tie.Need-element-write-self-4
 element-write-self-4 c = search needs
 
--- src/state.rt:65:22
 add-self : tie.Need-add-self
 add-self c = search needs
 
--- src/state.rt:55:5
 returns : tie.Need-returns
 returns c ts ls st m = shows-term ts ls st _ m _ _ _ (c .pre)
 
