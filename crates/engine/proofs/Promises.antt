@@ -1,5 +1,4 @@
--- The promises: demands 1, 2 and 3 of a call on any bytes. Each statement uses definitions of specs/ alone; docs/PROMISES.md goes through the demands
--- sentence by sentence and names the statement for each.
+-- The promises: the demands of specs/Demands.antt, proved of every call. docs/PROMISES.md goes through them sentence by sentence.
 use mathlib.Core.Bool.{not}
 use mathlib.Core.List.{List, _++_, List·Memᴰ}
 use mathlib.Core.Logic.{_↔_}
@@ -42,6 +41,7 @@ use Rattle.engine.specs.declared.Answer.the-variants.{Consistent, Incons
 use Rattle.engine.specs.Buffers.{classNumber, writtenOver, classAt, LowestInClass}
 use Rattle.engine.specs.Call.{Buffers, Returned, recordsIn, judged}
 use Rattle.engine.specs.Refusals.{Carried, Refusal}
+use Rattle.engine.specs.Demands.{Demand1, Classes, Demand2, Demand3, Demand3Returned}
 use Rattle.engine.proofs.AddedTerms.{addedBytes, addedBytes-length, table-read}
 use Rattle.engine.proofs.AddedFit.{added-fits}
 use Rattle.engine.proofs.Critical.{critical-found, critical-none}
@@ -195,3 +195,29 @@ module _ (terms literals : List ℕ) (bs : Buffers) where
       let table : termsOf (terms ++ take (16 * a) (judged terms literals bs .buffers .added)) ≡ tableOf (termsOf terms) st = ap (λ (l : List ℕ). termsOf (terms ++ l)) taken ∙ table-read terms (st .added) (sound terms literals good .terms-whole) (λ m stands. added-fits terms literals (sound terms literals good) bytes run m stands) in
       let clauses : clausesRead k (judged terms literals bs .buffers .clauses) ≡ clausesRead (length (recordsIn (termsOf terms) (literalsOf literals) st (literalAt (literalsOf literals) d))) (clauseBytesOf (termsOf terms) (literalsOf literals) st d ++ rest) = ap₂ clausesRead (c .record-count) (c .clauses) in
       subst₂ (λ (t : List Term) (cs : List Clause). Summarises (termsOf terms) (literalsOf literals) t cs) (sym table) (sym clauses) written
+
+-- ---- the demands
+
+pub demand-1 : (terms literals : List ℕ) (bs : Buffers) → Demand1 terms literals bs
+demand-1 terms literals bs = record { refusal-exactly = refusal-exactly terms literals bs; refused-changes-nothing = refused-changes-nothing terms literals bs }
+
+pub demand-2 : (terms literals : List ℕ) (bs : Buffers) → Demand2 terms literals bs
+demand-2 terms literals bs =
+    record {
+      consistent-exactly = consistent-exactly terms literals bs;
+      inconsistent-unsatisfiable = inconsistent-unsatisfiable terms literals bs;
+      classes = λ e. record { classes-exactly = classes-exactly terms literals bs e; classes-finitely = classes-finitely terms literals bs e; class-is-lowest = class-is-lowest terms literals bs e; idle-class = idle-class terms literals bs e };
+    }
+
+pub demand-3 : (terms literals : List ℕ) → checked terms literals ≡ Sound → Demand3 terms literals
+demand-3 terms literals good =
+    record {
+      run-ends = λ run. run-ends terms literals good run;
+      runs-agree = λ run done run′ done′. runs-agree terms literals good run done run′ done′;
+      run-summarises = λ run. run-summarises terms literals good run;
+      own-run-allowed = own-run-allowed terms literals good;
+      own-run-ended = own-run-ended terms literals good;
+    }
+
+pub demand-3-returned : (terms literals : List ℕ) (bs : Buffers) → Demand3Returned terms literals bs
+demand-3-returned = returned-summarises

@@ -3,3 +3,4 @@ pub mod Answers
 pub mod Buffers
 pub mod Call
 pub mod Refusals
+pub mod Demands
