@@ -37,3 +37,5 @@ pub mod Stops
 pub mod Tying
 pub mod Choices
 pub mod EqualVertex
+pub mod OnRuns
+pub mod DerivedSteps

@@ -1,3 +1,6 @@
+-- `closure::step::middle_step` meets its contract: the rooted forest gives the choice, the middle term is put in its place, and both ends are tied to it.
+use mathlib.Core.Path.{refl}
+use Rattle.closure.proofs.OnRuns.{vertex-small, can-root, choosing, choice-found, placing, put-shown, not-both, middle-small, first-room, second-room, middle-outcome}
 use borrow.Author.Needs.{needs}
 use Rattle.closure.proofs.step.middle_step.Statement.{statement}
 use Rattle.closure.proofs.step.middle_step.Tie as tie
@@ -14,11 +17,11 @@ mul-symbol c = search needs
 
 -- src/step.rt:163:18
 element-copy-out-symbol : tie.Need-element-copy-out-symbol
-element-copy-out-symbol c = ?
+element-copy-out-symbol c = vertex-small (c .before .before .before .pre .0) (c .before .before .before .args .s) (c .before .before .before .pre .1 .left-vertex)
 
 -- src/step.rt:164:17
 element-copy-out-arity : tie.Need-element-copy-out-arity
-element-copy-out-arity c = ?
+element-copy-out-arity c = vertex-small (c .before .before .before .before .pre .0) (c .before .before .before .before .args .s) (c .before .before .before .before .pre .1 .left-vertex)
 
 -- src/step.rt:165:16
 mul-of-s : tie.Need-mul-of-s
@@ -26,7 +29,7 @@ mul-of-s c = search needs
 
 -- src/step.rt:165:16
 element-copy-out-of-s : tie.Need-element-copy-out-of-s
-element-copy-out-of-s c = ?
+element-copy-out-of-s c = vertex-small (c .before .before .before .before .before .pre .0) (c .before .before .before .before .before .args .s) (c .before .before .before .before .before .pre .1 .left-vertex)
 
 -- src/step.rt:166:16
 mul-of-t : tie.Need-mul-of-t
@@ -34,11 +37,11 @@ mul-of-t c = search needs
 
 -- src/step.rt:166:16
 element-copy-out-of-t : tie.Need-element-copy-out-of-t
-element-copy-out-of-t c = ?
+element-copy-out-of-t c = vertex-small (c .before .before .before .before .before .before .pre .0) (c .before .before .before .before .before .before .args .t) (c .before .before .before .before .before .before .pre .1 .right-vertex)
 
 -- src/step.rt:167:9
 rooted-requires : tie.Need-rooted-requires
-rooted-requires c κs = ?
+rooted-requires c κs = can-root (c .before .before .before .before .before .before .before .before .pre .0)
 
 -- src/step.rt:168:50
 cast-chosen : tie.Need-cast-chosen
@@ -46,27 +49,40 @@ cast-chosen c = search needs
 
 -- src/step.rt:168:9
 chosen-requires : tie.Need-chosen-requires
-chosen-requires c κs = ?
+chosen-requires c κs = choosing (c .before .before .before .before .before .before .before .before .before .before .pre .0) _ _ (c .before .before .before .before .before .before .before .before .before .before .pre .1) _ _ _ (c .before .rooted .ensures)
 
 -- src/step.rt:170:9
 returns : tie.Need-returns
-returns c = ?
+returns c run apart = absurd (not-both (choice-found run _ _ apart _ _ _ (c .before .before .before .rooted .ensures) _ (c .before .chosen .ensures) .0) (c .if1 .taken))
 
 -- src/step.rt:176:9
 placed-requires : tie.Need-placed-requires
-placed-requires c κs = ?
+placed-requires c κs =
+    let run = c .before .before .before .before .before .before .before .before .before .before .before .before .before .pre .0 in
+    let apart = c .before .before .before .before .before .before .before .before .before .before .before .before .before .pre .1 in
+    placing run _ _ apart _ (choice-found run _ _ apart _ _ _ (c .before .before .before .before .rooted .ensures) _ (c .before .before .chosen .ensures) .1)
 
 -- src/step.rt:179:9
 tied-requires : tie.Need-tied-requires
-tied-requires c κs = ?
+tied-requires c κs =
+    let run = c .before .before .before .before .before .before .before .before .before .before .before .before .before .before .before .pre .0 in
+    let apart = c .before .before .before .before .before .before .before .before .before .before .before .before .before .before .before .pre .1 in
+    let put = put-shown run _ _ apart _ (choice-found run _ _ apart _ _ _ (c .before .before .before .before .before .before .rooted .ensures) _ (c .before .before .before .before .chosen .ensures) .1) _ _ (c .before .placed .ensures) in
+    (vertex-small run _ (apart .left-vertex), middle-small run _ _ apart _ _ (put .0) (put .1), first-room run _ _ apart _ _ (put .0) (put .1))
 
 -- src/step.rt:180:9
 tied-requires-2 : tie.Need-tied-requires-2
-tied-requires-2 c κs = ?
+tied-requires-2 c κs =
+    let run = c .before .before .before .before .before .before .before .before .before .before .before .before .before .before .before .before .pre .0 in
+    let apart = c .before .before .before .before .before .before .before .before .before .before .before .before .before .before .before .before .pre .1 in
+    let put = put-shown run _ _ apart _ (choice-found run _ _ apart _ _ _ (c .before .before .before .before .before .before .before .rooted .ensures) _ (c .before .before .before .before .before .chosen .ensures) .1) _ _ (c .before .before .placed .ensures) in
+    (vertex-small run _ (apart .right-vertex), middle-small run _ _ apart _ _ (put .0) (put .1), second-room run _ _ apart _ _ (put .0) (put .1) _ (c .tied .ensures (run .ts) (run .ls) _ (put .0)))
 
 -- src/step.rt:156:1
 returns-2 : tie.Need-returns-2
-returns-2 c = ?
+returns-2 c run apart =
+    let put = put-shown run _ _ apart _ (choice-found run _ _ apart _ _ _ (c .before .before .before .before .before .before .before .before .rooted .ensures) _ (c .before .before .before .before .before .before .chosen .ensures) .1) _ _ (c .before .before .before .placed .ensures) in
+    middle-outcome run _ _ apart _ _ (put .0) (put .1) _ refl (c .tied2 .ensures (run .ts) (run .ls) _ (c .before .tied .ensures (run .ts) (run .ls) _ (put .0)))
 
 pub middle-step-spec : {M : Type 1} → statement M
 middle-step-spec =
