@@ -39,3 +39,4 @@ pub mod Choices
 pub mod EqualVertex
 pub mod OnRuns
 pub mod DerivedSteps
+pub mod OwnTurns
