@@ -33,3 +33,10 @@ pub mod AllRuns
 pub mod Numbered
 pub mod Rooted
 pub mod Climbs
+pub mod Stops
+pub mod Tying
+pub mod Choices
+pub mod EqualVertex
+pub mod OnRuns
+pub mod DerivedSteps
+pub mod OwnTurns

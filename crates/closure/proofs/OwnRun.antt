@@ -27,12 +27,19 @@ use Rattle.closure.proofs.OwnSteps.{must-pass, basic-steps-run, basic-s
 -- ---- the turns
 
 -- nothing is done where no pair is found
-turns-none : (find : State → Option Pair) (step : State → Pair → Option State) (k : ℕ) (st : State) → find st ≡ none → turnsAt find step (suc k) st ≡ some st
+pub turns-none : (find : State → Option Pair) (step : State → Pair → Option State) (k : ℕ) (st : State) → find st ≡ none → turnsAt find step (suc k) st ≡ some st
 unfolding turnsAt
 turns-none find step k st q = rw (q, turnsAt)
 
+-- nothing is left where the step cannot be taken
+pub turns-stuck : (find : State → Option Pair) (step : State → Pair → Option State) (k : ℕ) (st : State) (p : Pair) → find st ≡ some p → step st p ≡ none → turnsAt find step (suc k) st ≡ none
+unfolding turnsAt
+turns-stuck find step k st p q r =
+    let first : turnsAt find step (suc k) st ≡ elim (step st p) [ none ↦ none | some z ↦ turnsAt find step k z ] = rw (q, turnsAt) in
+    first ∙ ap {B = Option State} (λ (o : Option State). elim o [ none ↦ none | some z ↦ turnsAt find step k z ]) r
+
 -- a turn is one step
-turns-some : (find : State → Option Pair) (step : State → Pair → Option State) (k : ℕ) (st after : State) (p : Pair) → find st ≡ some p → step st p ≡ some after → turnsAt find step (suc k) st ≡ turnsAt find step k after
+pub turns-some : (find : State → Option Pair) (step : State → Pair → Option State) (k : ℕ) (st after : State) (p : Pair) → find st ≡ some p → step st p ≡ some after → turnsAt find step (suc k) st ≡ turnsAt find step k after
 unfolding turnsAt
 turns-some find step k st after p q r =
     let first : turnsAt find step (suc k) st ≡ elim (step st p) [ none ↦ none | some z ↦ turnsAt find step k z ] = rw (q, turnsAt) in

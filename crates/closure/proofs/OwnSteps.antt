@@ -104,12 +104,12 @@ only-made ts ls X Y table v h k = and-both (colourable ts ls X table v) (not (co
 -- of an edge that is not colourable one end is not, where the other is
 module _ (ts : List Term) (ls : List Literal) (X : Side) (table : List Term) (s t : ℕ) where
   -- the left end
-  not-edge-left : T (not (edgeColourable ts ls X table s t)) → T (colourable ts ls X table t) → T (not (colourable ts ls X table s))
+  pub not-edge-left : T (not (edgeColourable ts ls X table s t)) → T (colourable ts ls X table t) → T (not (colourable ts ls X table s))
   unfolding edgeColourable
   not-edge-left n h = not-and-left (colourable ts ls X table s) (colourable ts ls X table t) n h
 
   -- the right end
-  not-edge-right : T (not (edgeColourable ts ls X table s t)) → T (colourable ts ls X table s) → T (not (colourable ts ls X table t))
+  pub not-edge-right : T (not (edgeColourable ts ls X table s t)) → T (colourable ts ls X table s) → T (not (colourable ts ls X table t))
   unfolding edgeColourable
   not-edge-right n h = not-and-right (colourable ts ls X table s) (colourable ts ls X table t) n h
 

@@ -10,3 +10,4 @@ pub mod Rooting
 pub mod Trails
 pub mod Keys
 pub mod Opening
+pub mod Stepping

@@ -10,6 +10,7 @@ pub mod rooting;
 pub mod run;
 pub mod search;
 pub mod state;
+pub mod step;
 
 // Where an edge comes from.
 pub enum EdgeKind {

@@ -1,22 +1,28 @@
 // "The library's own run".
 
 use super::EdgeKind;
+use super::Pair;
 use super::Row;
 use super::graph::Graph;
 use super::labels;
+use super::search;
 use super::state::State;
+use super::step;
+use super::step::Stepped;
 use tables::Side;
 use tables::Tables;
 ghost use mathlib.Core.Bool.{cond};
 ghost use mathlib.Core.Path.{_≡_};
 ghost use lib.Dec.{eqb};
+ghost use lib.ListN.{length};
 ghost use Rattle.tables.specs.TermTable.{termsOf};
 ghost use Rattle.tables.specs.LiteralTable.{literalsOf};
 ghost use Rattle.tables.specs.Read.{argumentRows};
 ghost use Rattle.closure.specs.Steps.{begin as noSteps};
-ghost use Rattle.closure.specs.OwnRun.{basicSteps};
+ghost use Rattle.closure.specs.OwnRun.{basicSteps, firstPair, derivedStep, turnsAt};
 ghost use Rattle.closure.specs.Shown.{Shows};
 ghost use Rattle.closure.specs.Opening.{ReadFrom, Opens};
+ghost use Rattle.closure.specs.Stepping.{OnRun, Outcome, Ends};
 
 // The state before the first step: the given terms, and no edge.
 pub fn begin(t: Tables, given: [[u16; 4]; 256]) -> State
@@ -76,4 +82,44 @@ pub fn basic_steps(t: Tables, start: State) -> State
         i += 1;
     }
     st
+}
+
+// "then, repeatedly, the derived step on the first pair .. until none is left": a run has fewer steps than there are terms.
+pub fn derived_steps(start: State, given: usize) -> Stepped
+    requires { ⌜ ((run : OnRun start) × (given ≡ length (run .ts))) ⌝ }
+    ensures { λ r. ⌜ ((run : OnRun start) → given ≡ length (run .ts) → Outcome (run .ts) (run .ls) (turnsAt (firstPair (run .ts) (run .ls)) (derivedStep (run .ts) (run .ls)) given (run .reached)) r) ⌝ }
+{
+    let mut st = start;
+    let mut turns = given;
+    while 0 < turns {
+        let found = search::first_pair(st, given);
+        let Pair::Of(s, t) = found else {
+            return Stepped {
+                stuck: false,
+                state: st,
+            };
+        };
+        let next = step::derived_step(st, s as u16, t as u16);
+        if next.stuck {
+            return next;
+        }
+        let after = next.state;
+        st = after;
+        turns -= 1;
+    }
+    Stepped {
+        stuck: false,
+        state: st,
+    }
+}
+
+// The run from its first step to its last.
+pub fn own_run(t: Tables, given: [[u16; 4]; 256]) -> Stepped
+    requires { ⌜ ((from : ReadFrom t) × (given ≡ argumentRows (from .terms))) ⌝ }
+    ensures { λ r. ⌜ ((from : ReadFrom t) → given ≡ argumentRows (from .terms) → Ends (termsOf (from .terms)) (literalsOf (from .literals)) r) ⌝ }
+{
+    let start = begin(t, given);
+    let first = basic_steps(t, start);
+    let count = t.terms;
+    derived_steps(first, count)
 }
