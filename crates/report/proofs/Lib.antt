@@ -1,0 +1,4 @@
+-- Laws of the page and of the text; the proofs of the functions cite them.
+pub mod Pages
+pub mod Digits
+pub mod Lines

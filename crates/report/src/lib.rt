@@ -1,0 +1,6 @@
+// The text of an answer: the lines that eqsplit prints.
+
+mod added;
+mod classes;
+mod fields;
+mod page;
