@@ -2,3 +2,4 @@
 pub mod Pages
 pub mod Digits
 pub mod Lines
+pub mod ClauseLines

@@ -60,11 +60,16 @@ conclusionText (equals p) = pairText (ascii "=") p
 conclusionText (differs p) = pairText (ascii "!=") p
 conclusionText falsum = ascii "false"
 
+-- a premise that is not the first
+unfoldable pub andPair : Pair → List ℕ
+unfolding pairText
+andPair p = ascii " & " ++ pairText (ascii "=") p
+
 -- "premises joined by ` & `"; "without premises the line starts `-> `"
 unfoldable pub premisesText : List Pair → List ℕ
-unfolding pairText flatMap
+unfolding pairText andPair flatMap
 premisesText [] = ascii "-> "
-premisesText (p ∷ ps) = pairText (ascii "=") p ++ flatMap (λ q. ascii " & " ++ pairText (ascii "=") q) ps ++ ascii " -> "
+premisesText (p ∷ ps) = pairText (ascii "=") p ++ flatMap andPair ps ++ ascii " -> "
 
 -- "one line a clause"
 unfoldable pub clauseLine : Clause → List ℕ

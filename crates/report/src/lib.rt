@@ -2,5 +2,6 @@
 
 mod added;
 mod classes;
+mod horn;
 mod fields;
 mod page;

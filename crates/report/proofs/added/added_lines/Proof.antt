@@ -1,42 +1,42 @@
+-- `report::added::added_lines` meets its contract. The invariant: the lines of the terms passed are written. The measure is what is left of the terms.
+use mathlib.Core.List.{flatMap}
+use mathlib.Core.Path.{_≡_, refl}
+use Prim.Native.Nat.{_≤_, _-_}
+use lib.ListN.{length}
+use Rattle.tables.specs.Words.{below}
+use Rattle.report.specs.Page.{page, puts}
+use Rattle.report.specs.Text.{addedLine}
+use Rattle.report.proofs.Pages.{no-texts, one-text-more, all-texts}
+use borrow.Author.Needs.{needs}
 use Rattle.report.proofs.added.added_lines.Statement.{statement}
 use Rattle.report.proofs.added.added_lines.Tie as tie
-use Rattle.report.proofs.added.added_lines.Reads as reads
-use Rattle.report.proofs.added.added_lines.Lts as lts
-use Rattle.report.proofs.added.added_line.Reads as added-line-reads
 
 abbrev Inv-loop : tie.InvT-loop
-Inv-loop out₀ at given added count next₀ i₀ out next i = ?
+Inv-loop out₀ at given added count next₀ i₀ out next i = (i ≤ count) × (length out ≡ length out₀) × (page out next ≡ puts (page out₀ at) (flatMap (addedLine given added) (below i)))
 
 abbrev μ-loop : tie.MeasureT-loop
-μ-loop out₀ at given added count next₀ i₀ out next i = ?
+μ-loop out₀ at given added count next₀ i₀ out next i = count - i
 
--- src/added.rt:59:5
 loop-holds : tie.Need-loop-holds Inv-loop μ-loop
-loop-holds c = ?
+loop-holds c = (search needs, refl, no-texts _ _)
 
--- src/added.rt:60:9
 added-line-requires : tie.Need-added-line-requires Inv-loop μ-loop
-added-line-requires c κs = ?
+added-line-requires c κs = search needs
 
--- src/added.rt:61:9
 add-i : tie.Need-add-i Inv-loop μ-loop
-add-i c = ?
+add-i c = search needs
 
--- src/added.rt:59:5
 loop-less : tie.Need-loop-less Inv-loop μ-loop
-loop-less c = ?
+loop-less c = search needs
 
--- src/added.rt:59:5
 loop-again : tie.Need-loop-again Inv-loop μ-loop
-loop-again c = ?
+loop-again c = (search needs, search needs, one-text-more _ _ _ (c .before .before .before .before .before .loop .inv .2) (c .before .before .added-line .ensures))
 
--- src/added.rt:53:1
 same-length : tie.Need-same-length Inv-loop μ-loop
-same-length c = ?
+same-length c = search needs
 
--- src/added.rt:53:1
 returns : tie.Need-returns Inv-loop μ-loop
-returns c = ?
+returns c = all-texts _ _ _ _ (c .before .loop .inv .2) (c .before .loop .inv .0) (c .loop-test .left)
 
 pub added-lines-spec : {M : Type 1} → statement M
 added-lines-spec =

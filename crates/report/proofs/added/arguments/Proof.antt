@@ -1,42 +1,42 @@
+-- `report::added::arguments` meets its contract. The invariant: the arguments passed are written. The measure is what is left of them.
+use mathlib.Core.List.{flatMap}
+use mathlib.Core.Path.{_≡_, refl}
+use Prim.Native.Nat.{_≤_, _-_}
+use lib.ListN.{length}
+use Rattle.tables.specs.Words.{below}
+use Rattle.report.specs.Page.{page, puts}
+use Rattle.report.specs.Text.{argumentText}
+use Rattle.report.proofs.Pages.{no-texts, one-text-more, all-texts}
+use borrow.Author.Needs.{needs}
 use Rattle.report.proofs.added.arguments.Statement.{statement}
 use Rattle.report.proofs.added.arguments.Tie as tie
-use Rattle.report.proofs.added.arguments.Reads as reads
-use Rattle.report.proofs.added.arguments.Lts as lts
-use Rattle.report.proofs.added.argument.Reads as argument-reads
 
 abbrev Inv-loop : tie.InvT-loop
-Inv-loop out₀ at added i count next₀ j₀ out next j = ?
+Inv-loop out₀ at added i count next₀ j₀ out next j = (j ≤ count) × (length out ≡ length out₀) × (page out next ≡ puts (page out₀ at) (flatMap (argumentText added i) (below j)))
 
 abbrev μ-loop : tie.MeasureT-loop
-μ-loop out₀ at added i count next₀ j₀ out next j = ?
+μ-loop out₀ at added i count next₀ j₀ out next j = count - j
 
--- src/added.rt:29:5
 loop-holds : tie.Need-loop-holds Inv-loop μ-loop
-loop-holds c = ?
+loop-holds c = (search needs, refl, no-texts _ _)
 
--- src/added.rt:30:9
 argument-requires : tie.Need-argument-requires Inv-loop μ-loop
-argument-requires c κs = ?
+argument-requires c κs = search needs
 
--- src/added.rt:31:9
 add-j : tie.Need-add-j Inv-loop μ-loop
-add-j c = ?
+add-j c = search needs
 
--- src/added.rt:29:5
 loop-less : tie.Need-loop-less Inv-loop μ-loop
-loop-less c = ?
+loop-less c = search needs
 
--- src/added.rt:29:5
 loop-again : tie.Need-loop-again Inv-loop μ-loop
-loop-again c = ?
+loop-again c = (search needs, search needs, one-text-more _ _ _ (c .before .before .before .before .before .loop .inv .2) (c .before .before .argument .ensures))
 
--- src/added.rt:23:1
 same-length : tie.Need-same-length Inv-loop μ-loop
-same-length c = ?
+same-length c = search needs
 
--- src/added.rt:23:1
 returns : tie.Need-returns Inv-loop μ-loop
-returns c = ?
+returns c = all-texts _ _ _ _ (c .before .loop .inv .2) (c .before .loop .inv .0) (c .loop-test .left)
 
 pub arguments-spec : {M : Type 1} → statement M
 arguments-spec =
