@@ -81,6 +81,7 @@ upFrom-more s j h = ap (upFrom s) gap ∙ upFrom-last s (j - s) ∙ ap (λ (k : 
   where
     gap : j + 1 - s ≡ suc (j - s)
     gap = omega arith
+
     back : s + (j - s) ≡ j
     back = omega arith
 

@@ -54,6 +54,7 @@ behind-put x p b = ap (page (x ∷ set (p .bytes) (p .at) b)) (⊎-elim inside o
   where
     inside : p .at < length (p .bytes) → cond (ltb (suc (p .at)) (suc (length (p .bytes)))) (suc (p .at) + 1) (suc (p .at)) ≡ suc (cond (ltb (p .at) (length (p .bytes))) (p .at + 1) (p .at))
     inside h = simp (lt-ltb (suc (p .at)) (suc (length (p .bytes))) (omega arith), lt-ltb (p .at) (length (p .bytes)) h) (omega arith)
+
     outside : length (p .bytes) ≤ p .at → cond (ltb (suc (p .at)) (suc (length (p .bytes)))) (suc (p .at) + 1) (suc (p .at)) ≡ suc (cond (ltb (p .at) (length (p .bytes))) (p .at + 1) (p .at))
     outside h = simp (le-ltb (suc (p .at)) (suc (length (p .bytes))) (omega arith), le-ltb (p .at) (length (p .bytes)) h)
 
@@ -105,3 +106,7 @@ all-texts p f i n h k l = h ∙ ap (λ (m : ℕ). puts p (flatMap f (below m))) 
 -- a text under another name
 pub as-text : (p : Page) {xs ys : List ℕ} {q : Page} → q ≡ puts p xs → ys ≡ xs → q ≡ puts p ys
 as-text p h e = h ∙ ap (puts p) (sym e)
+
+-- a text written from the start of a buffer is shown in it, under another name too
+pub shown-as : (text : List ℕ) (out : List ℕ) {xs : List ℕ} {q : Page} → q ≡ puts (page out 0) xs → text ≡ xs → q ≡ shown text out
+shown-as text out h e = as-text (page out 0) h e ∙ puts-shown text out

@@ -81,15 +81,22 @@ unfoldable pub consistentText : ℕ → List ℕ → List ℕ
 unfolding termLine flatMap
 consistentText given partition = ascii "consistent\n" ++ flatMap (termLine partition) (below (min given 256))
 
--- "Line 1: verdict and disequality. Added terms follow ..; then one line a clause .. Last: counts of added terms and clause records."
--- No run adds over 255 terms, and the clause records are those that the buffer holds whole.
+-- "Line 1: verdict and disequality."
+unfoldable pub headText : ℕ → List ℕ
+headText disequality = ascii "inconsistent by " ++ decimal disequality ++ ascii "\n"
+
+-- "Last: counts of added terms and clause records."
+unfoldable pub endText : ℕ → ℕ → List ℕ
+endText terms records = ascii "end " ++ decimal terms ++ ascii " " ++ decimal records ++ ascii "\n"
+
+-- "Added terms follow ..; then one line a clause". No run adds over 255 terms, and the clause records are those that the buffer holds whole.
 unfoldable pub inconsistentText : ℕ → ℕ → ℕ → ℕ → List ℕ → List ℕ → List ℕ
-unfolding addedLine clauseLine flatMap
-inconsistentText disequality a k given added clauses =
-    ascii "inconsistent by " ++ decimal disequality ++ ascii "\n" ++
-    flatMap (addedLine (min given 256) added) (below (min a 255)) ++
-    flatMap clauseLine (clausesRead (min k (countOf 8 clauses)) clauses) ++
-    ascii "end " ++ decimal a ++ ascii " " ++ decimal k ++ ascii "\n"
+unfolding headText addedLine clauseLine endText flatMap
+inconsistentText disequality terms records given added clauses =
+    headText disequality ++
+    flatMap (addedLine (min given 256) added) (below (min terms 255)) ++
+    flatMap clauseLine (clausesRead (min records (countOf 8 clauses)) clauses) ++
+    endText terms records
 
 -- "`refused NUMBER at PLACE`"
 unfoldable pub refusedText : ℕ → ℕ → List ℕ
@@ -99,5 +106,5 @@ refusedText number place = ascii "refused " ++ decimal number ++ ascii " at " ++
 unfoldable pub reportOf : Answer → ℕ → List ℕ → List ℕ → List ℕ → List ℕ
 unfolding consistentText inconsistentText refusedText
 reportOf Consistent given partition added clauses = consistentText given partition
-reportOf (Inconsistent d a k) given partition added clauses = inconsistentText d a k given added clauses
+reportOf (Inconsistent disequality terms records) given partition added clauses = inconsistentText disequality terms records given added clauses
 reportOf (Refused number place) given partition added clauses = refusedText number place
