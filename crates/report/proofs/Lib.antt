@@ -3,3 +3,4 @@ pub mod Pages
 pub mod Digits
 pub mod Lines
 pub mod ClauseLines
+pub mod Examples
