@@ -106,6 +106,7 @@ module _ {colours toward by rank : List ℕ} {of-s of-t : Row} {arity : ℕ} (w 
     pub row : args ≡ padded terms
     pub rest : choice ≡ prepend terms (from j)
 
+  -- at first nothing is chosen
   pub chosen-nothing : Chosen (0 ∷ 0 ∷ 0 ∷ 0 ∷ []) 0
   unfolding padded prepend
   chosen-nothing = record { within = omega arith; terms = []; count = refl; row = refl; rest = go choice }
@@ -132,13 +133,16 @@ module _ {colours toward by rank : List ℕ} {of-s of-t : Row} {arity : ℕ} (w 
     abbrev u : ℕ
     u = getD (w .left) j 0
 
+    -- and of t
     abbrev v : ℕ
     v = getD (w .right) j 0
 
+    -- the code reads them off the rows
     pub left-field : getD (of-s .args) j 0 ≡ u
     unfolding padded
     left-field = ap (λ (xs : List ℕ). getD xs j 0) (w .left-is) ∙ List·getD-append (w .left) (replicate (4 - length (w .left)) 0) 0 j (omega (arith, w .left-length))
 
+    -- and so of t
     pub right-field : getD (of-t .args) j 0 ≡ v
     unfolding padded
     right-field = ap (λ (xs : List ℕ). getD xs j 0) (w .right-is) ∙ List·getD-append (w .right) (replicate (4 - length (w .right)) 0) 0 j (omega (arith, w .right-length))
@@ -147,6 +151,7 @@ module _ {colours toward by rank : List ℕ} {of-s of-t : Row} {arity : ℕ} (w 
     pub left-below : u < length (w .table)
     left-below = w .left-within u (getD-mem (w .left) j 0 (omega (arith, w .left-length)))
 
+    -- and so is the other
     pub right-below : v < length (w .table)
     right-below = w .right-within v (getD-mem (w .right) j 0 (omega (arith, w .right-length)))
 
@@ -158,6 +163,7 @@ module _ {colours toward by rank : List ℕ} {of-s of-t : Row} {arity : ℕ} (w 
     pub walks : Joining toward by rank (getD (of-s .args) j 0) (getD (of-t .args) j 0) (w .graph)
     walks = record { forest = w .forest; rooted = w .rooted; join = subst (λ (x : ℕ). T (joined (w .graph) x (getD (of-t .args) j 0))) (sym left-field) (subst (λ (y : ℕ). T (joined (w .graph) u y)) (sym right-field) are-joined) }
 
+    -- what the walk asks for
     pub can-walk : (getD (of-s .args) j 0 < 511) × (getD (of-t .args) j 0 < 511) × ((G : Graph) × Joining toward by rank (getD (of-s .args) j 0) (getD (of-t .args) j 0) G)
     can-walk = (omega (arith, left-field, left-below, w .within), omega (arith, right-field, right-below, w .within), (w .graph, walks))
 

@@ -1,18 +1,19 @@
 -- The search for the vertex that equals the middle term, and the middle term in its place.
 use mathlib.Core.Bool.{Bool, true, false, _&&_}
-use mathlib.Core.List.{List, [], _∷_, _++_}
+use mathlib.Core.List.{List}
 use mathlib.Core.Option.{Option, some, none}
 use mathlib.Core.Path.{_≡_, refl, sym, ap, ap₂, subst, _∙_}
 use Prim.Native.Nat.{ℕ, _+_, _-_, _≤_, _<_}
 use native.Mathlib.Omega.{arith}
-use lib.Dec.{T, eqb, eqb→eq, eqb-refl}
+use lib.Dec.{T, eqb, eqb→eq}
 use lib.ListN.{length, getD, take, replicate, length-append, length-replicate}
 use lib.Seq.{take-append-seam}
-use Rattle.tables.specs.Words.{same, firstBelow}
+use Rattle.tables.specs.Words.{same}
 use Rattle.tables.specs.Terms.{Term, termAt}
-use Rattle.tables.proofs.Words.{and-left, and-right, and-both, passed, passes, fails, same-test, same-eq, same-self, firstBelow-some}
-use Rattle.tables.proofs.Records.{NotYet, not-yet, not-more, first-found, not-found}
-use Rattle.closure.specs.Steps.{State, tableOf, vertex, equalTerms, vertexEqual, placeAs, placed}
+use Rattle.tables.proofs.Words.{and-left, and-right, and-both, same-test, same-eq, same-self, firstBelow-some}
+use Rattle.tables.proofs.Tests.{eq-test}
+use Rattle.tables.proofs.Records.{NotYet, not-more, first-found, not-found}
+use Rattle.closure.specs.Steps.{tableOf, vertex, equalTerms, vertexEqual, placeAs, placed}
 use Rattle.closure.specs.Shown.{padded, Shows, withTerm}
 use Rattle.closure.specs.Keys.{noRow}
 use Rattle.closure.specs.Stepping.{numberOr, Placing}
@@ -20,10 +21,6 @@ use Rattle.closure.specs.declared.Row.{Row}
 use Rattle.closure.specs.declared.state.State.{State as Arrays}
 use Rattle.closure.proofs.Showing.{shown-symbol, shown-arity, shown-row, shown-vertex}
 use Rattle.closure.proofs.MiddleStep.{equal-terms}
-
--- equal numbers pass the test
-pub eq→eqb : (m n : ℕ) → m ≡ n → T (eqb m n)
-eq→eqb m n e = subst (λ (x : ℕ). T (eqb m x)) e (eqb-refl m)
 
 -- ---- rows
 
@@ -45,9 +42,11 @@ module _ {s : Arrays} {symbol arity : ℕ} {row : Row} (p : Placing s symbol ari
   abbrev table : List Term
   table = tableOf (p .ts) (p .reached)
 
+  -- the code counts its terms
   pub count-is : s .terms ≡ length table
   count-is = p .shows .terms
 
+  -- which fit the arrays
   pub count-fits : s .terms ≤ 511
   count-fits = omega (arith, count-is, p .shows .within)
 
@@ -55,6 +54,7 @@ module _ {s : Arrays} {symbol arity : ℕ} {row : Row} (p : Placing s symbol ari
   abbrev pub equals : ℕ → Bool
   equals v = vertex (p .ts) (p .ls) (p .reached) v && equalTerms (termAt table v) (p .middle)
 
+  -- the row of the middle term has four fields
   pub row-length : length (row .args) ≡ 4
   row-length = ap length (p .row-is) ∙ padded-length (p .middle .arguments) (omega (arith, p .arity-is, p .arity-small))
 
@@ -63,6 +63,7 @@ module _ {s : Arrays} {symbol arity : ℕ} {row : Row} (p : Placing s symbol ari
     abbrev term : Term
     term = termAt table v
 
+    -- v is a term of it
     within : v < length table
     within = omega (arith, count-is)
 
@@ -70,6 +71,7 @@ module _ {s : Arrays} {symbol arity : ℕ} {row : Row} (p : Placing s symbol ari
     row-at : getD (s .rows) v noRow .args ≡ padded (term .arguments)
     row-at = ap (λ (r : Row). r .args) (shown-row (p .ts) (p .ls) (p .reached) s (p .shows) v within)
 
+    -- and its length
     pub rows-length : length (getD (s .rows) v noRow .args) ≡ 4
     rows-length = ap length row-at ∙ padded-length (term .arguments) (p .small v within)
 
@@ -81,12 +83,15 @@ module _ {s : Arrays} {symbol arity : ℕ} {row : Row} (p : Placing s symbol ari
     abbrev pub tested : Bool
     tested = alike && same (getD (s .rows) v noRow .args) (row .args)
 
+    -- the arrays hold its symbol
     symbol-at : getD (s .symbols) v 0 ≡ term .symbol
     symbol-at = shown-symbol (p .ts) (p .ls) (p .reached) s (p .shows) v within
 
+    -- its arity
     arity-at : getD (s .arities) v 0 ≡ length (term .arguments)
     arity-at = shown-arity (p .ts) (p .ls) (p .reached) s (p .shows) v within
 
+    -- and whether it is a vertex
     vertex-at : getD (s .vertices) v false ≡ vertex (p .ts) (p .ls) (p .reached) v
     vertex-at = shown-vertex (p .ts) (p .ls) (p .reached) s (p .shows) v within
 
@@ -107,7 +112,7 @@ module _ {s : Arrays} {symbol arity : ℕ} {row : Row} (p : Placing s symbol ari
         and-both (vertex (p .ts) (p .ls) (p .reached) v) (eqb (term .symbol) (p .middle .symbol) && same (term .arguments) (p .middle .arguments))
         (subst T vertex-at (and-right (a && b) d abd))
         (and-both (eqb (term .symbol) (p .middle .symbol)) (same (term .arguments) (p .middle .arguments))
-        (eq→eqb (term .symbol) (p .middle .symbol) symbols)
+        (eq-test (term .symbol) (p .middle .symbol) .1 symbols)
         (subst (λ (l : List ℕ). T (same (term .arguments) l)) arguments (same-self (term .arguments))))
 
     -- and the other way round
@@ -122,8 +127,8 @@ module _ {s : Arrays} {symbol arity : ℕ} {row : Row} (p : Placing s symbol ari
         and-both (a && b && d) (same (getD (s .rows) v noRow .args) (row .args))
         (and-both (a && b) d
         (and-both a b
-        (eq→eqb (getD (s .symbols) v 0) symbol (symbol-at ∙ ap (λ (x : Term). x .symbol) e ∙ p .symbol-is))
-        (eq→eqb (getD (s .arities) v 0) arity (arity-at ∙ ap (λ (x : Term). length (x .arguments)) e ∙ p .arity-is)))
+        (eq-test (getD (s .symbols) v 0) symbol .1 (symbol-at ∙ ap (λ (x : Term). x .symbol) e ∙ p .symbol-is))
+        (eq-test (getD (s .arities) v 0) arity .1 (arity-at ∙ ap (λ (x : Term). length (x .arguments)) e ∙ p .arity-is)))
         (subst T (sym vertex-at) (and-left w (equalTerms term (p .middle)) t)))
         (subst (λ (l : List ℕ). T (same (getD (s .rows) v noRow .args) l)) rows (same-self (getD (s .rows) v noRow .args)))
 
@@ -144,6 +149,7 @@ module _ {s : Arrays} {symbol arity : ℕ} {row : Row} (p : Placing s symbol ari
     unfolding vertexEqual
     equal-found y e r = ap (numberOr (length table)) (first-found equals (length table) v tested y within tests-agree (ap₂ (λ (a b : Bool). a && b) e r))
 
+  -- none is found
   pub equal-none : (v : ℕ) → NotYet equals (length table) v → s .terms ≤ v → s .terms ≡ numberOr (length table) (vertexEqual (p .ts) (p .ls) (p .reached) (p .middle))
   unfolding vertexEqual
   equal-none v y l = count-is ∙ ap (numberOr (length table)) (not-found equals (length table) v y (omega (arith, count-is)))

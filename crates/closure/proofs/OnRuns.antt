@@ -3,21 +3,20 @@ use mathlib.Core.Bool.{Bool, true, false, not}
 use mathlib.Core.List.{List, [], _∷_, _++_, map, append-assoc}
 use mathlib.Core.Logic.{inr, ⊎-elim}
 use mathlib.Core.Option.{Option, some, none}
-use mathlib.Core.Path.{_≡_, refl, sym, ap, subst, _∙_}
-use Prim.Native.Nat.{ℕ, suc, _+_, _≤_, _<_}
+use mathlib.Core.Path.{_≡_, sym, ap, subst, _∙_}
+use Prim.Native.Nat.{ℕ, _≤_, _<_}
 use native.Mathlib.Omega.{arith}
 use lib.Dec.{T, not-T}
 use lib.ListN.{length, getD, length-append, length-map}
 use Rattle.tables.specs.Words.{below}
 use Rattle.tables.specs.Terms.{Term, termAt}
 use Rattle.tables.specs.LiteralTable.{Literal}
-use Rattle.tables.specs.declared.Side.{Side}
 use Rattle.tables.specs.declared.Side.the-variants.{A, B}
 use Rattle.tables.specs.Colours.{colourable, shared}
 use Rattle.tables.proofs.Words.{and-both, below-or-not}
 use Rattle.tables.proofs.Colours.{inUse-within}
-use Rattle.closure.specs.Graph.{derived, Graph, label, joined, joinedPairwise}
-use Rattle.closure.specs.Steps.{State, tableOf, vertex, congruent, withEdge, middleTerm, vertexEqual, Placed, placeAs, placed, tied, tiedBoth, withMiddle, colourableOnly, Chosen, Step, middle-step, Run, next}
+use Rattle.closure.specs.Graph.{Graph, label, joined, joinedPairwise}
+use Rattle.closure.specs.Steps.{State, tableOf, vertex, middleTerm, vertexEqual, Placed, placeAs, placed, tied, tiedBoth, withMiddle, colourableOnly, Chosen, Step, middle-step, next}
 use Rattle.closure.specs.OwnRun.{firstShared, middleBy, middleFrom}
 use Rattle.closure.specs.Forests.{Forest, EndsBelow}
 use Rattle.closure.specs.Layout.{edgesOf}
@@ -52,12 +51,15 @@ pub pairwise-length : (G : Graph) (xs ys : List ℕ) → T (joinedPairwise G xs 
 pairwise-length G xs ys h = sym (length-map xs (label G)) ∙ ap length (joined-labels G xs ys h) ∙ length-map ys (label G)
 
 module _ {a : Arrays} (run : OnRun a) where
+  -- the given terms
   abbrev ts : List Term
   ts = run .ts
 
+  -- the literals
   abbrev ls : List Literal
   ls = run .ls
 
+  -- the state that is shown
   abbrev st : State
   st = run .reached
 
@@ -81,9 +83,11 @@ module _ {a : Arrays} (run : OnRun a) where
   pub arity-small : (v : ℕ) → v < length table → length (arguments v) ≤ 4
   arity-small v h = ⊎-elim (given v) added (below-or-not v (length ts))
     where
+      -- a given term
       given : (w : ℕ) → w < length ts → length (arguments w) ≤ 4
       given w l = subst (λ (x : Term). length (x .arguments) ≤ 4) (sym (extends-term ts table (given-first ts st) w l)) (run .checked .small w l)
 
+      -- an added one
       added : length ts ≤ v → length (arguments v) ≤ 4
       added l =
           let q = run-known ts ls (run .checked .lower) (run .checked .sides) (run .run) v (added-vertex ts ls st v l h) in
@@ -111,18 +115,22 @@ module _ {a : Arrays} (run : OnRun a) where
   pub step-edges : {after : State} → Step ts ls st after → length (after .graph) ≤ 510
   step-edges step = few-edges ts ls (run .checked .lower) (run .checked .sides) (run .checked .few) (next (run .run) step)
 
+  -- and 255 added terms
   pub step-added : {after : State} → Step ts ls st after → length (after .added) ≤ 255
   step-added step = few-added ts ls (run .checked .lower) (run .checked .sides) (run .checked .few) (next (run .run) step)
 
   -- ---- the middle step
 
   module _ (s t : ℕ) (apart : Apart ts ls st s t) where
+    -- s is a term of the table
     s-within : s < length table
     s-within = vertex-within ts ls st s (apart .left-vertex)
 
+    -- and so is t
     t-within : t < length table
     t-within = vertex-within ts ls st t (apart .right-vertex)
 
+    -- their arguments are joined pair by pair
     alike-arguments : T (joinedPairwise (st .graph) (arguments s) (arguments t))
     alike-arguments = congruent-arguments table (st .graph) s t (apart .alike)
 
@@ -168,10 +176,12 @@ module _ {a : Arrays} (run : OnRun a) where
     abbrev pub middle : Term
     middle = middleTerm table s terms
 
+    -- s is A-colourable only
     left-only : T (colourableOnly ts ls A B table s)
     unfolding colourableOnly
     left-only = and-both (colourable ts ls A table s) (not (colourable ts ls B table s)) (apart .left-a) (apart .left-not-b)
 
+    -- t is B-colourable only
     right-only : T (colourableOnly ts ls B A table t)
     unfolding colourableOnly
     right-only = and-both (colourable ts ls B table t) (not (colourable ts ls A table t)) (apart .right-b) (apart .right-not-a)

@@ -54,18 +54,24 @@ pub record Turned (ts : List Term) (ls : List Literal) (j k : ℕ) (st after : S
   pub stays : (u v : ℕ) → T (joined (st .graph) u v) → T (joined (after .graph) u v)
 
 module _ (ts : List Term) (ls : List Literal) (low : LowerArguments ts) (within : SidesWithin ts ls) where
-  -- the derived step on the first pair is a step
-  pub first-pair-step : (st : State) → SoundState ts ls st → (p : Pair) → firstPair ts ls st ≡ some p → (after : State) × (derivedStep ts ls st p ≡ some after) × Step ts ls st after
-  unfolding firstPair derivable
-  first-pair-step st r p q =
-      let h = firstOf-some (derivable ts ls st) (pairsBelow (length ts)) p q .1 in
+  -- a pair that can be derived: unjoined congruent vertices
+  pub derivable-parts : (st : State) (p : Pair) → T (derivable ts ls st p) → T (vertex ts ls st (p .left)) × T (vertex ts ls st (p .right)) × T (not (joined (st .graph) (p .left) (p .right))) × T (congruent (tableOf ts st) (st .graph) (p .left) (p .right))
+  unfolding derivable
+  derivable-parts st p h =
       let s = p .left in
       let t = p .right in
       let c = congruent (tableOf ts st) (st .graph) s t in
       let u = inUse ts ls s && inUse ts ls t in
       let cu = and-left (c && u) (not (joined (st .graph) s t)) h in
       let used = and-right c u cu in
-      own-step ts ls st r s t (inUse-vertex ts ls low within st s (and-left (inUse ts ls s) (inUse ts ls t) used)) (inUse-vertex ts ls low within st t (and-right (inUse ts ls s) (inUse ts ls t) used)) (and-right (c && u) (not (joined (st .graph) s t)) h) (and-left c u cu)
+      (inUse-vertex ts ls low within st s (and-left (inUse ts ls s) (inUse ts ls t) used), inUse-vertex ts ls low within st t (and-right (inUse ts ls s) (inUse ts ls t) used), and-right (c && u) (not (joined (st .graph) s t)) h, and-left c u cu)
+
+  -- the derived step on the first pair is a step
+  pub first-pair-step : (st : State) → SoundState ts ls st → (p : Pair) → firstPair ts ls st ≡ some p → (after : State) × (derivedStep ts ls st p ≡ some after) × Step ts ls st after
+  unfolding firstPair
+  first-pair-step st r p q =
+      let w = derivable-parts st p (firstOf-some (derivable ts ls st) (pairsBelow (length ts)) p q .1) in
+      own-step ts ls st r (p .left) (p .right) (w .0) (w .1) (w .2) (w .3)
 
   -- the turns are steps of a run, and they come to an end or are all used
   pub turns : (k j : ℕ) (st : State) → Run ts ls j st → (after : State) × Turned ts ls j k st after

@@ -104,12 +104,12 @@ only-made ts ls X Y table v h k = and-both (colourable ts ls X table v) (not (co
 -- of an edge that is not colourable one end is not, where the other is
 module _ (ts : List Term) (ls : List Literal) (X : Side) (table : List Term) (s t : ℕ) where
   -- the left end
-  pub not-edge-left : T (not (edgeColourable ts ls X table s t)) → T (colourable ts ls X table t) → T (not (colourable ts ls X table s))
+  not-edge-left : T (not (edgeColourable ts ls X table s t)) → T (colourable ts ls X table t) → T (not (colourable ts ls X table s))
   unfolding edgeColourable
   not-edge-left n h = not-and-left (colourable ts ls X table s) (colourable ts ls X table t) n h
 
   -- the right end
-  pub not-edge-right : T (not (edgeColourable ts ls X table s t)) → T (colourable ts ls X table s) → T (not (colourable ts ls X table t))
+  not-edge-right : T (not (edgeColourable ts ls X table s t)) → T (colourable ts ls X table s) → T (not (colourable ts ls X table t))
   unfolding edgeColourable
   not-edge-right n h = not-and-right (colourable ts ls X table s) (colourable ts ls X table t) n h
 
@@ -124,6 +124,20 @@ other-right a b (inl h) n = absurd (T-not a n h)
 other-right a b (inr h) n = h
 
 module _ (ts : List Term) (ls : List Literal) (st : State) (r : SoundState ts ls st) where
+  -- the colours of ends between which no edge is colourable, where s is A-colourable
+  pub apart-from-left : (s t : ℕ) → T (vertex ts ls st t) → T (not (edgeColourable ts ls B (tableOf ts st) s t)) → T (not (edgeColourable ts ls A (tableOf ts st) s t)) → T (colourable ts ls A (tableOf ts st) s) → T (not (colourable ts ls B (tableOf ts st) s)) × T (colourable ts ls B (tableOf ts st) t) × T (not (colourable ts ls A (tableOf ts st) t))
+  apart-from-left s t vt nb na sa =
+      let ta = not-edge-right ts ls A (tableOf ts st) s t na sa in
+      let tb = other-right (colourable ts ls A (tableOf ts st) t) (colourable ts ls B (tableOf ts st) t) (r .coloured t vt) ta in
+      (not-edge-left ts ls B (tableOf ts st) s t nb tb, tb, ta)
+
+  -- and where it is not
+  pub apart-from-right : (s t : ℕ) → T (vertex ts ls st s) → T (vertex ts ls st t) → T (not (edgeColourable ts ls B (tableOf ts st) s t)) → T (not (colourable ts ls A (tableOf ts st) s)) → T (colourable ts ls A (tableOf ts st) t) × T (not (colourable ts ls B (tableOf ts st) t)) × T (colourable ts ls B (tableOf ts st) s)
+  apart-from-right s t vs vt nb sa =
+      let sb = other-right (colourable ts ls A (tableOf ts st) s) (colourable ts ls B (tableOf ts st) s) (r .coloured s vs) sa in
+      let tb = not-edge-right ts ls B (tableOf ts st) s t nb sb in
+      (other-left (colourable ts ls A (tableOf ts st) t) (colourable ts ls B (tableOf ts st) t) (r .coloured t vt) tb, tb, sb)
+
   -- the middle step that the library takes between an A-colourable and a B-colourable end is there, and is one
   own-middle : (s t : ℕ) → T (vertex ts ls st s) → T (vertex ts ls st t) → T (not (joined (st .graph) s t)) → T (congruent (tableOf ts st) (st .graph) s t) → T (colourable ts ls A (tableOf ts st) s) → T (not (colourable ts ls B (tableOf ts st) s)) → T (colourable ts ls B (tableOf ts st) t) → T (not (colourable ts ls A (tableOf ts st) t)) → (after : State) × (middleFrom ts ls st s t ≡ some after) × Step ts ls st after
   unfolding middleFrom middleBy
@@ -157,15 +171,12 @@ module _ (ts : List Term) (ls : List Literal) (st : State) (r : SoundState ts ls
       middle : (b : Bool) → colourable ts ls A table s ≡ b → T (not (edgeColourable ts ls B table s t)) → T (not (edgeColourable ts ls A table s t)) → Taken (from b)
       middle true q nb na =
           let sa = passes (colourable ts ls A table s) q in
-          let ta = not-edge-right ts ls A table s t na sa in
-          let tb = other-right (colourable ts ls A table t) (colourable ts ls B table t) (r .coloured t vt) ta in
-          own-middle s t vs vt n c sa (not-edge-left ts ls B table s t nb tb) tb ta
+          let w = apart-from-left s t vt nb na sa in
+          own-middle s t vs vt n c sa (w .0) (w .1) (w .2)
       middle false q nb na =
           let sa = fails (colourable ts ls A table s) q in
-          let sb = other-right (colourable ts ls A table s) (colourable ts ls B table s) (r .coloured s vs) sa in
-          let tb = not-edge-right ts ls B table s t nb sb in
-          let ta = other-left (colourable ts ls A table t) (colourable ts ls B table t) (r .coloured t vt) tb in
-          own-middle t s vt vs (unjoined-sym (st .graph) s t n) (congruent-sym table (st .graph) s t c) ta tb sb sa
+          let w = apart-from-right s t vs vt nb sa in
+          own-middle t s vt vs (unjoined-sym (st .graph) s t n) (congruent-sym table (st .graph) s t c) (w .0) (w .1) (w .2) sa
 
       as-A : (b : Bool) → edgeColourable ts ls A table s t ≡ b → T (not (edgeColourable ts ls B table s t)) → Taken (orA b)
       as-A true q nb = (withEdge st s t A derived, refl, derived-step s t A vs vt n c (passes (edgeColourable ts ls A table s t) q))

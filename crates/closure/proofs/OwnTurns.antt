@@ -1,19 +1,20 @@
 -- The turns of the library's own run as the code takes them: the arrays go on showing the state of a run, and the turns left come to the same end.
-use mathlib.Core.Bool.{Bool, true, false, not}
+use mathlib.Core.Bool.{true, false, not}
 use mathlib.Core.List.{List, [], _∷_, _++_}
 use mathlib.Core.Logic.{_⊎_, inl, inr, ⊎-elim}
 use mathlib.Core.Option.{Option, some, none}
 use mathlib.Core.Path.{_≡_, refl, sym, ap, subst, _∙_}
 use Prim.Native.Nat.{ℕ, zero, suc, _+_, _-_, _≤_, _<_}
 use native.Mathlib.Omega.{arith}
-use lib.Dec.{T, eqb, ltb, not-T}
+use lib.Dec.{T, eqb, eqb→eq}
 use lib.ListN.{length, getD, replicate, List·getD-eq-default}
-use Rattle.tables.specs.Words.{Pair, pair, pairsBelow}
+use Rattle.tables.specs.Words.{Pair, pairsBelow}
 use Rattle.tables.specs.Terms.{Term, termAt}
-use Rattle.tables.specs.TermTable.{termCount, termRecord, symbolField, arityField, rowOf, otherArity, hadOtherArity, termOf, termsOf}
+use Rattle.tables.specs.TermTable.{termCount, termRecord, symbolField, arityField, otherArity, hadOtherArity, termOf, termsOf}
 use Rattle.tables.specs.LiteralTable.{Literal, literalsOf}
 use Rattle.tables.specs.declared.Tables.{Tables}
 use Rattle.tables.proofs.Words.{and-both, by-test, passes, fails, some-someBelow, below-or-is, below-or-not, getD-mem, firstOf-some, pairsBelow-mem}
+use Rattle.tables.proofs.Tests.{eq-test}
 use Rattle.tables.proofs.Filled.{filled-behind}
 use Rattle.tables.proofs.Sound.{SoundTables, length-termsOf, termAt-termsOf, arity-small, lower-arguments, sides-within}
 use Rattle.closure.specs.Steps.{State, begin, tableOf, Step, Run, start, next}
@@ -29,7 +30,7 @@ use Rattle.closure.proofs.Showing.{shown-arity, shown-row}
 use Rattle.closure.proofs.Beginning.{sound-tables, terms-are, arity-length}
 use Rattle.closure.proofs.OwnSteps.{basic-steps-run}
 use Rattle.closure.proofs.OwnRun.{turns-none, turns-stuck, turns-some, first-pair-step}
-use Rattle.closure.proofs.EqualVertex.{eq→eqb, padded-length}
+use Rattle.closure.proofs.EqualVertex.{padded-length}
 use Rattle.closure.proofs.OnRuns.{not-both, on-run-sound, arity-small as few-arguments}
 
 -- ---- the arrays can be looked up
@@ -48,6 +49,7 @@ unfolding padded
 fields-within xs h f = (padded-length xs h, λ j l. subst (λ (k : ℕ). k < 511) (sym (zeros-behind xs (4 - length xs) j)) (⊎-elim (f j) (λ (w : length xs ≤ j). omega (arith, List·getD-eq-default xs 0 {n = j} w)) (below-or-not j (length xs))))
 
 module _ {a : Arrays} (run : OnRun a) where
+  -- the given and the added terms
   abbrev table : List Term
   table = tableOf (run .ts) (run .reached)
 
@@ -55,6 +57,7 @@ module _ {a : Arrays} (run : OnRun a) where
   pub orderly : Orderly a
   orderly = record { rows = rows; arities = arities }
     where
+      -- the rows
       rows : (v : ℕ) → v < 511 → FieldsWithin (getD (a .rows) v noRow .args)
       rows v l =
           ⊎-elim
@@ -64,6 +67,7 @@ module _ {a : Arrays} (run : OnRun a) where
           (fields-within [] (omega arith) (λ j k. let z : ⊥ = omega arith in absurd z)))
           (below-or-not v (length table))
 
+      -- the arities
       arities : (v : ℕ) → v < 511 → getD (a .arities) v 0 ≤ 4
       arities v l =
           ⊎-elim
@@ -90,9 +94,11 @@ pub record TurnsLeft {first : Arrays} (run : OnRun first) (given : ℕ) (a : Arr
   pub left : turnsAt (firstPair (run .ts) (run .ls)) (derivedStep (run .ts) (run .ls)) given (run .reached) ≡ turnsAt (firstPair (run .ts) (run .ls)) (derivedStep (run .ts) (run .ls)) turns reached
 
 module _ {first : Arrays} (run : OnRun first) (given : ℕ) where
+  -- the given terms
   abbrev ts : List Term
   ts = run .ts
 
+  -- the literals
   abbrev ls : List Literal
   ls = run .ls
 
@@ -121,9 +127,11 @@ module _ {first : Arrays} (run : OnRun first) (given : ℕ) where
         shown-end r free is (w .left ∙ ap (λ (k : ℕ). turnsAt (firstPair ts ls) (derivedStep ts ls) k (w .reached)) z)
 
     module _ (more : 0 < turns) where
+      -- there is a turn
       one-more : turns ≡ suc (turns - 1)
       one-more = omega arith
 
+      -- which comes next
       turn-is : end ≡ turnsAt (firstPair ts ls) (derivedStep ts ls) (suc (turns - 1)) (w .reached)
       turn-is = w .left ∙ ap (λ (k : ℕ). turnsAt (firstPair ts ls) (derivedStep ts ls) k (w .reached)) one-more
 
@@ -155,6 +163,7 @@ module _ {first : Arrays} (run : OnRun first) (given : ℕ) where
                   left = turn-is ∙ turns-some (firstPair ts ls) (derivedStep ts ls) (turns - 1) (w .reached) after p e d;
                 }
               where
+                -- a step leads to one state
                 same : (z after : State) → some z ≡ some after → z ≡ after
                 same z after h = cc
 
@@ -167,16 +176,19 @@ later-arity bs ls sound j k h l e =
     let x = arityField (termRecord bs j) in
     let y = arityField (termRecord bs k) in
     let same = eqb (symbolField (termRecord bs j)) (symbolField (termRecord bs k)) in
-    by-test (eqb x y) (λ q. lib.Dec.eqb→eq x y (passes (eqb x y) q))
-    (λ q. absurd (sound .one-arity k l (some-someBelow (otherArity bs k) k j h (and-both same (not (eqb x y)) (eq→eqb (symbolField (termRecord bs j)) (symbolField (termRecord bs k)) e) (fails (eqb x y) q)))))
+    by-test (eqb x y) (λ q. eqb→eq x y (passes (eqb x y) q))
+    (λ q. absurd (sound .one-arity k l (some-someBelow (otherArity bs k) k j h (and-both same (not (eqb x y)) (eq-test (symbolField (termRecord bs j)) (symbolField (termRecord bs k)) .1 e) (fails (eqb x y) q)))))
 
 module _ (t : Tables) (from : ReadFrom t) where
+  -- the bytes of the terms
   abbrev bs : List ℕ
   bs = from .terms
 
+  -- the given terms
   abbrev given : List Term
   given = termsOf bs
 
+  -- the literals
   abbrev literals : List Literal
   literals = literalsOf (from .literals)
 
@@ -184,6 +196,7 @@ module _ (t : Tables) (from : ReadFrom t) where
   passed : SoundTables bs (from .literals)
   passed = sound-tables t from
 
+  -- a given term is a record
   counted : (v : ℕ) → v < length given → v < termCount bs
   counted v l = omega (arith, length-termsOf bs)
 
@@ -192,6 +205,7 @@ module _ (t : Tables) (from : ReadFrom t) where
   unfolding termOf
   arguments-are v l = ap (λ (x : Term). length (x .arguments)) (termAt-termsOf bs v (counted v l)) ∙ sym (arity-length bs (from .literals) passed v (counted v l))
 
+  -- and its symbol
   symbol-is : (v : ℕ) → v < length given → termAt given v .symbol ≡ symbolField (termRecord bs v)
   unfolding termOf
   symbol-is v l = ap (λ (x : Term). x .symbol) (termAt-termsOf bs v (counted v l))
@@ -200,6 +214,7 @@ module _ (t : Tables) (from : ReadFrom t) where
   one-arity : OneArity given
   one-arity u v l m e = arguments-are u l ∙ go (below-or-not u v) ∙ sym (arguments-are v m)
     where
+      -- the records have one symbol
       symbols : symbolField (termRecord bs u) ≡ symbolField (termRecord bs v)
       symbols = sym (symbol-is u l) ∙ e ∙ symbol-is v m
 
@@ -223,6 +238,7 @@ module _ (t : Tables) (from : ReadFrom t) where
     basic-run : (k : ℕ) × Run given literals k (basicSteps literals begin)
     basic-run = basic-steps-run given literals literals (λ l m. m) zero begin start
 
+    -- so they can go on
     pub after-basic : OnRun a
     after-basic = record { ts = given; ls = literals; reached = basicSteps literals begin; checked = checks; shows = shows; steps = basic-run .0; run = basic-run .1 }
 

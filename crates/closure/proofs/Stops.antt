@@ -19,14 +19,17 @@ module _ (p : ℕ → Bool) (stops : List ℕ) (n : ℕ) (long : n ≤ length st
   abbrev front : List ℕ
   front = take n stops
 
+  -- they are n
   front-length : length front ≡ n
   front-length = length-take n stops ∙ omega arith
 
+  -- from i on they begin with stop i
   front-cons : (i : ℕ) → i < n → drop i front ≡ getD stops i 0 ∷ drop (suc i) front
   front-cons i h =
       drop-cons front i 0 (omega (arith, front-length)) ∙
       ap (λ (v : ℕ). v ∷ drop (suc i) front) (getD-take n stops i 0 h)
 
+  -- at first none is looked at
   pub failed-none : Failed p stops n 0
   failed-none = (omega arith, refl)
 

@@ -3,8 +3,8 @@
 use super::EdgeKind;
 use super::Row;
 use super::paths;
-use super::rooting::Rooting;
 use super::rooting;
+use super::rooting::Rooting;
 use super::state::State;
 use tables::Side;
 ghost use mathlib.Core.List.{List};

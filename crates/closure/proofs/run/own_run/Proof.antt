@@ -3,28 +3,19 @@ use Rattle.closure.proofs.OwnTurns.{after-basic, turns-given, ends}
 use borrow.Author.Needs.{needs}
 use Rattle.closure.proofs.run.own_run.Statement.{statement}
 use Rattle.closure.proofs.run.own_run.Tie as tie
-use Rattle.closure.proofs.run.own_run.Reads as reads
-use Rattle.closure.proofs.run.own_run.Lts as lts
-use Rattle.closure.proofs.run.basic_steps.Reads as basic-steps-reads
-use Rattle.closure.proofs.run.begin.Reads as begin-reads
-use Rattle.closure.proofs.run.derived_steps.Reads as derived-steps-reads
 
--- src/run.rt:121:9
 begin-requires : tie.Need-begin-requires
 begin-requires c κs = search needs
 
--- src/run.rt:122:9
 basic-steps-requires : tie.Need-basic-steps-requires
 basic-steps-requires c κs = (c .before .pre .0, c .begin .ensures (c .before .pre .0) (c .before .pre .1))
 
--- src/run.rt:124:5
 derived-steps-requires : tie.Need-derived-steps-requires
 derived-steps-requires c κs =
     let from = c .before .before .pre .0 in
     let shows = c .basic-steps .ensures from (c .before .begin .ensures from (c .before .before .pre .1)) in
     (after-basic _ from _ shows, turns-given _ from _ shows)
 
--- src/run.rt:117:1
 returns : tie.Need-returns
 returns c from e =
     ends _ from _ (c .before .basic-steps .ensures from (c .before .before .begin .ensures from e)) _ (c .derived-steps .ensures)

@@ -8,10 +8,6 @@ use Rattle.closure.specs.Stepping.{metOf, Choosing}
 use Rattle.closure.proofs.Choices.{Chosen, chosen-nothing, chosen-all, chosen-stuck, chosen-more, can-walk, walks, stops-fit, stops-below, met-is, hands-none, hands-some}
 use Rattle.closure.proofs.step.chosen.Statement.{statement}
 use Rattle.closure.proofs.step.chosen.Tie as tie
-use Rattle.closure.proofs.step.chosen.Reads as reads
-use Rattle.closure.proofs.step.chosen.Lts as lts
-use Rattle.closure.proofs.paths.path.Reads as path-reads
-use Rattle.closure.proofs.step.first_shared.Reads as first-shared-reads
 
 abbrev Inv-loop : tie.InvT-loop
 Inv-loop colours arity of-s of-t toward by rank args₀ j₀ args j =
@@ -20,31 +16,24 @@ Inv-loop colours arity of-s of-t toward by rank args₀ j₀ args j =
 abbrev μ-loop : tie.MeasureT-loop
 μ-loop colours arity of-s of-t toward by rank args₀ j₀ args j = arity - j
 
--- src/step.rt:67:5
 loop-holds : tie.Need-loop-holds Inv-loop μ-loop
 loop-holds c w = chosen-nothing w
 
--- src/step.rt:68:17
 mul-u : tie.Need-mul-u Inv-loop μ-loop
 mul-u c = omega (arith, c .before .before .before .before .before .pre .small)
 
--- src/step.rt:68:17
 element-copy-out-u : tie.Need-element-copy-out-u Inv-loop μ-loop
 element-copy-out-u c = omega (arith, c .before .before .before .before .before .pre .small)
 
--- src/step.rt:69:17
 mul-v : tie.Need-mul-v Inv-loop μ-loop
 mul-v c = omega (arith, c .before .before .before .before .before .before .pre .small)
 
--- src/step.rt:69:17
 element-copy-out-v : tie.Need-element-copy-out-v Inv-loop μ-loop
 element-copy-out-v c = omega (arith, c .before .before .before .before .before .before .pre .small)
 
--- src/step.rt:70:13
 path-requires : tie.Need-path-requires Inv-loop μ-loop
 path-requires c κs = can-walk (c .before .before .before .before .before .before .before .before .before .before .pre) (c .before .before .before .before .before .before .loop .j) (c .before .before .before .before .before .loop-test .taken)
 
--- src/step.rt:72:13
 first-shared-requires : tie.Need-first-shared-requires Inv-loop μ-loop
 first-shared-requires c κs =
     let w = c .before .before .before .before .before .before .before .before .before .before .before .before .before .pre in
@@ -54,15 +43,12 @@ first-shared-requires c κs =
     let trail = c .before .before .path .ensures (w .graph) (walks w j more) in
     (trail .within, stops-fit w j more r trail, stops-below w j more r trail)
 
--- src/step.rt:73:21
 enum-known-met : tie.Need-enum-known-met Inv-loop μ-loop
 enum-known-met c = search needs
 
--- src/step.rt:76:28
 enum-told : tie.Need-enum-told Inv-loop μ-loop
 enum-told c = search needs
 
--- src/step.rt:74:13
 returns : tie.Need-returns Inv-loop μ-loop
 returns c w =
     let j = c .before .before .before .before .before .before .before .before .before .before .before .before .loop .j in
@@ -73,23 +59,18 @@ returns c w =
     (sym (met-is w j more _ trail) ∙ sym (c .before .before .first-shared .ensures) ∙ ap metOf (c .enum-told .given .1)))
     refl
 
--- src/step.rt:79:9
 mul-args : tie.Need-mul-args Inv-loop μ-loop
 mul-args c = omega (arith, c .before .before .before .before .before .before .before .before .before .before .before .before .before .before .before .before .before .pre .small)
 
--- src/step.rt:79:9
 array-write-args : tie.Need-array-write-args Inv-loop μ-loop
 array-write-args c = omega (arith, c .before .before .before .before .before .before .before .before .before .before .before .before .before .before .before .before .before .pre .small)
 
--- src/step.rt:80:9
 add-j : tie.Need-add-j Inv-loop μ-loop
 add-j c = omega arith
 
--- src/step.rt:67:5
 loop-less : tie.Need-loop-less Inv-loop μ-loop
 loop-less c = omega arith
 
--- src/step.rt:67:5
 loop-again : tie.Need-loop-again Inv-loop μ-loop
 loop-again c w =
     let j = c .before .before .before .before .before .before .before .before .before .before .before .before .before .loop .j in
@@ -98,7 +79,6 @@ loop-again c w =
     chosen-more w j more _ _ (c .before .before .before .before .before .before .before .before .before .before .before .before .before .loop .inv w)
     (sym (met-is w j more _ trail) ∙ sym (c .before .before .before .first-shared .ensures) ∙ ap metOf (c .before .met .given .1))
 
--- src/step.rt:58:1
 returns-2 : tie.Need-returns-2 Inv-loop μ-loop
 returns-2 c w = hands-some _ _ refl (chosen-all w _ (c .before .loop .j) (c .before .loop .inv w) (c .loop-test .left))
 

@@ -1,6 +1,5 @@
 -- `closure::step::first_shared` meets its contract. The invariant: the stops passed are not shared. The measure is what is left of them.
-use mathlib.Core.Bool.{Bool}
-use Prim.Native.Nat.{ℕ, _+_, _-_}
+use Prim.Native.Nat.{_+_, _-_}
 use native.Mathlib.Omega.{arith}
 use borrow.Author.Tests.{eq-eqb, ne-eqb}
 use borrow.Author.Needs.{needs}
@@ -9,8 +8,6 @@ use lib.ListN.{getD}
 use Rattle.closure.proofs.Stops.{Failed, failed-none, failed-more, failed-until, failed-all}
 use Rattle.closure.proofs.step.first_shared.Statement.{statement}
 use Rattle.closure.proofs.step.first_shared.Tie as tie
-use Rattle.closure.proofs.step.first_shared.Reads as reads
-use Rattle.closure.proofs.step.first_shared.Lts as lts
 
 abbrev Inv-loop : tie.InvT-loop
 Inv-loop colours stops hops i₀ i = Failed (λ v. eqb (getD colours v 0) 3) stops (hops + 1) i
@@ -18,43 +15,33 @@ Inv-loop colours stops hops i₀ i = Failed (λ v. eqb (getD colours v 0) 3) sto
 abbrev μ-loop : tie.MeasureT-loop
 μ-loop colours stops hops i₀ i = hops + 1 - i
 
--- src/step.rt:41:5
 loop-holds : tie.Need-loop-holds Inv-loop μ-loop
 loop-holds c = failed-none _ _ _ (search needs)
 
--- src/step.rt:42:20
 mul-stop : tie.Need-mul-stop Inv-loop μ-loop
 mul-stop c = omega arith
 
--- src/step.rt:42:20
 element-copy-out-stop : tie.Need-element-copy-out-stop Inv-loop μ-loop
 element-copy-out-stop c = omega arith
 
--- src/step.rt:43:20
 cast-if1 : tie.Need-cast-if1 Inv-loop μ-loop
 cast-if1 c = omega (arith, c .before .before .before .pre .2 (c .before .before .loop .i) (omega arith))
 
--- src/step.rt:43:12
 element-copy-out-if1 : tie.Need-element-copy-out-if1 Inv-loop μ-loop
 element-copy-out-if1 c = omega (arith, c .before .before .before .pre .2 (c .before .before .loop .i) (omega arith))
 
--- src/step.rt:44:13
 returns : tie.Need-returns Inv-loop μ-loop
 returns c = failed-until _ _ _ (search needs) (c .before .before .before .before .loop .i) (c .before .before .before .before .loop .inv) (search needs) (eq-eqb _ _ (c .if1 .taken))
 
--- src/step.rt:46:9
 add-i : tie.Need-add-i Inv-loop μ-loop
 add-i c = omega arith
 
--- src/step.rt:41:5
 loop-less : tie.Need-loop-less Inv-loop μ-loop
 loop-less c = omega arith
 
--- src/step.rt:41:5
 loop-again : tie.Need-loop-again Inv-loop μ-loop
 loop-again c = failed-more _ _ _ (search needs) (c .before .before .before .before .loop .i) (c .before .before .before .before .loop .inv) (search needs) (ne-eqb _ _ (c .if1 .left))
 
--- src/step.rt:36:1
 returns-2 : tie.Need-returns-2 Inv-loop μ-loop
 returns-2 c = failed-all _ _ _ (search needs) (c .before .loop .i) (c .before .loop .inv) (search needs)
 

@@ -4,65 +4,46 @@ use Rattle.closure.proofs.OnRuns.{vertex-small, can-root, choosing, cho
 use borrow.Author.Needs.{needs}
 use Rattle.closure.proofs.step.middle_step.Statement.{statement}
 use Rattle.closure.proofs.step.middle_step.Tie as tie
-use Rattle.closure.proofs.step.middle_step.Reads as reads
-use Rattle.closure.proofs.step.middle_step.Lts as lts
-use Rattle.closure.proofs.rooting.rooted.Reads as rooted-reads
-use Rattle.closure.proofs.step.chosen.Reads as chosen-reads
-use Rattle.closure.proofs.step.placed.Reads as placed-reads
-use Rattle.closure.proofs.step.tied.Reads as tied-reads
 
--- src/step.rt:163:18
 mul-symbol : tie.Need-mul-symbol
 mul-symbol c = search needs
 
--- src/step.rt:163:18
 element-copy-out-symbol : tie.Need-element-copy-out-symbol
 element-copy-out-symbol c = vertex-small (c .before .before .before .pre .0) (c .before .before .before .args .s) (c .before .before .before .pre .1 .left-vertex)
 
--- src/step.rt:164:17
 element-copy-out-arity : tie.Need-element-copy-out-arity
 element-copy-out-arity c = vertex-small (c .before .before .before .before .pre .0) (c .before .before .before .before .args .s) (c .before .before .before .before .pre .1 .left-vertex)
 
--- src/step.rt:165:16
 mul-of-s : tie.Need-mul-of-s
 mul-of-s c = search needs
 
--- src/step.rt:165:16
 element-copy-out-of-s : tie.Need-element-copy-out-of-s
 element-copy-out-of-s c = vertex-small (c .before .before .before .before .before .pre .0) (c .before .before .before .before .before .args .s) (c .before .before .before .before .before .pre .1 .left-vertex)
 
--- src/step.rt:166:16
 mul-of-t : tie.Need-mul-of-t
 mul-of-t c = search needs
 
--- src/step.rt:166:16
 element-copy-out-of-t : tie.Need-element-copy-out-of-t
 element-copy-out-of-t c = vertex-small (c .before .before .before .before .before .before .pre .0) (c .before .before .before .before .before .before .args .t) (c .before .before .before .before .before .before .pre .1 .right-vertex)
 
--- src/step.rt:167:9
 rooted-requires : tie.Need-rooted-requires
 rooted-requires c κs = can-root (c .before .before .before .before .before .before .before .before .pre .0)
 
--- src/step.rt:168:50
 cast-chosen : tie.Need-cast-chosen
 cast-chosen c = search needs
 
--- src/step.rt:168:9
 chosen-requires : tie.Need-chosen-requires
 chosen-requires c κs = choosing (c .before .before .before .before .before .before .before .before .before .before .pre .0) _ _ (c .before .before .before .before .before .before .before .before .before .before .pre .1) _ _ _ (c .before .rooted .ensures)
 
--- src/step.rt:170:9
 returns : tie.Need-returns
 returns c run apart = absurd (not-both (choice-found run _ _ apart _ _ _ (c .before .before .before .rooted .ensures) _ (c .before .chosen .ensures) .0) (c .if1 .taken))
 
--- src/step.rt:176:9
 placed-requires : tie.Need-placed-requires
 placed-requires c κs =
     let run = c .before .before .before .before .before .before .before .before .before .before .before .before .before .pre .0 in
     let apart = c .before .before .before .before .before .before .before .before .before .before .before .before .before .pre .1 in
     placing run _ _ apart _ (choice-found run _ _ apart _ _ _ (c .before .before .before .before .rooted .ensures) _ (c .before .before .chosen .ensures) .1)
 
--- src/step.rt:179:9
 tied-requires : tie.Need-tied-requires
 tied-requires c κs =
     let run = c .before .before .before .before .before .before .before .before .before .before .before .before .before .before .before .pre .0 in
@@ -70,7 +51,6 @@ tied-requires c κs =
     let put = put-shown run _ _ apart _ (choice-found run _ _ apart _ _ _ (c .before .before .before .before .before .before .rooted .ensures) _ (c .before .before .before .before .chosen .ensures) .1) _ _ (c .before .placed .ensures) in
     (vertex-small run _ (apart .left-vertex), middle-small run _ _ apart _ _ (put .0) (put .1), first-room run _ _ apart _ _ (put .0) (put .1))
 
--- src/step.rt:180:9
 tied-requires-2 : tie.Need-tied-requires-2
 tied-requires-2 c κs =
     let run = c .before .before .before .before .before .before .before .before .before .before .before .before .before .before .before .before .pre .0 in
@@ -78,7 +58,6 @@ tied-requires-2 c κs =
     let put = put-shown run _ _ apart _ (choice-found run _ _ apart _ _ _ (c .before .before .before .before .before .before .before .rooted .ensures) _ (c .before .before .before .before .before .chosen .ensures) .1) _ _ (c .before .before .placed .ensures) in
     (vertex-small run _ (apart .right-vertex), middle-small run _ _ apart _ _ (put .0) (put .1), second-room run _ _ apart _ _ (put .0) (put .1) _ (c .tied .ensures (run .ts) (run .ls) _ (put .0)))
 
--- src/step.rt:156:1
 returns-2 : tie.Need-returns-2
 returns-2 c run apart =
     let put = put-shown run _ _ apart _ (choice-found run _ _ apart _ _ _ (c .before .before .before .before .before .before .before .before .rooted .ensures) _ (c .before .before .before .before .before .before .chosen .ensures) .1) _ _ (c .before .before .before .placed .ensures) in

@@ -8,8 +8,6 @@ use lib.ListN.{getD}
 use Rattle.tables.proofs.Records.{differ, agree}
 use Rattle.closure.proofs.step.same_row.Statement.{statement}
 use Rattle.closure.proofs.step.same_row.Tie as tie
-use Rattle.closure.proofs.step.same_row.Reads as reads
-use Rattle.closure.proofs.step.same_row.Lts as lts
 
 abbrev Inv-loop : tie.InvT-loop
 Inv-loop a b j₀ j = (j ≤ 4) × ((k : ℕ) → k < j → getD (a .args) k 0 ≡ getD (b .args) k 0)
@@ -17,43 +15,33 @@ Inv-loop a b j₀ j = (j ≤ 4) × ((k : ℕ) → k < j → getD (a .args) k 0 �
 abbrev μ-loop : tie.MeasureT-loop
 μ-loop a b j₀ j = 4 - j
 
--- src/step.rt:93:5
 loop-holds : tie.Need-loop-holds Inv-loop μ-loop
 loop-holds c = (omega arith, λ k h. absurd (not-suc-le-zero h))
 
--- src/step.rt:94:12
 mul-if1 : tie.Need-mul-if1 Inv-loop μ-loop
 mul-if1 c = omega arith
 
--- src/step.rt:94:12
 element-copy-out-if1 : tie.Need-element-copy-out-if1 Inv-loop μ-loop
 element-copy-out-if1 c = omega arith
 
--- src/step.rt:94:25
 mul-if1-2 : tie.Need-mul-if1-2 Inv-loop μ-loop
 mul-if1-2 c = omega arith
 
--- src/step.rt:94:25
 element-copy-out-if1-2 : tie.Need-element-copy-out-if1-2 Inv-loop μ-loop
 element-copy-out-if1-2 c = omega arith
 
--- src/step.rt:95:13
 returns : tie.Need-returns Inv-loop μ-loop
 returns c = sym (differ _ _ _ (c .if1 .taken))
 
--- src/step.rt:97:9
 add-j : tie.Need-add-j Inv-loop μ-loop
 add-j c = omega arith
 
--- src/step.rt:93:5
 loop-less : tie.Need-loop-less Inv-loop μ-loop
 loop-less c = omega arith
 
--- src/step.rt:93:5
 loop-again : tie.Need-loop-again Inv-loop μ-loop
 loop-again c = (omega arith, below-more _ _ (c .before .before .before .before .loop .inv .1) (c .if1 .left))
 
--- src/step.rt:89:1
 returns-2 : tie.Need-returns-2 Inv-loop μ-loop
 returns-2 c = sym (agree _ _ (c .before .before .pre .0 ∙ sym (c .before .before .pre .1)) (λ k h. c .before .loop .inv .1 k (omega (arith, c .before .before .pre .0))))
 

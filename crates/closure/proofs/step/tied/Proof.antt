@@ -3,35 +3,25 @@ use borrow.Author.Needs.{needs}
 use Rattle.closure.proofs.Tying.{shows-joined, shows-tied}
 use Rattle.closure.proofs.step.tied.Statement.{statement}
 use Rattle.closure.proofs.step.tied.Tie as tie
-use Rattle.closure.proofs.step.tied.Reads as reads
-use Rattle.closure.proofs.step.tied.Lts as lts
-use Rattle.closure.proofs.state.State.with_edge.Reads as with-edge-reads
 
--- src/step.rt:148:8
 mul-if1 : tie.Need-mul-if1
 mul-if1 c = search needs
 
--- src/step.rt:148:8
 array-read-if1 : tie.Need-array-read-if1
 array-read-if1 c = search needs
 
--- src/step.rt:148:30
 mul-if1-2 : tie.Need-mul-if1-2
 mul-if1-2 c = search needs
 
--- src/step.rt:148:30
 array-read-if1-2 : tie.Need-array-read-if1-2
 array-read-if1-2 c = search needs
 
--- src/step.rt:149:9
 returns : tie.Need-returns
 returns c ts ls reached shows = shows-joined ts ls reached _ shows _ _ (c .before .before .pre .0) (c .before .before .pre .1) _ (c .if1 .taken)
 
--- src/step.rt:151:5
 with-edge-requires : tie.Need-with-edge-requires
 with-edge-requires c κs = (c .before .before .pre .0, c .before .before .pre .1, c .before .before .pre .2 (c .if1 .left))
 
--- src/step.rt:143:1
 returns-2 : tie.Need-returns-2
 returns-2 c ts ls reached shows = shows-tied ts ls reached _ shows _ _ (c .before .before .before .pre .0) (c .before .before .before .pre .1) _ _ (c .before .if1 .left) (c .with-edge .ensures ts ls reached shows)
 

@@ -10,9 +10,6 @@ use Rattle.closure.specs.Stepping.{Placing}
 use Rattle.closure.proofs.EqualVertex.{count-fits, equals, row-length, rows-length, unlike-more, other-more, equal-found, equal-none}
 use Rattle.closure.proofs.step.vertex_equal.Statement.{statement}
 use Rattle.closure.proofs.step.vertex_equal.Tie as tie
-use Rattle.closure.proofs.step.vertex_equal.Reads as reads
-use Rattle.closure.proofs.step.vertex_equal.Lts as lts
-use Rattle.closure.proofs.step.same_row.Reads as same-row-reads
 
 abbrev Inv-loop : tie.InvT-loop
 Inv-loop symbol arity row st count v₀ v =
@@ -21,51 +18,39 @@ Inv-loop symbol arity row st count v₀ v =
 abbrev μ-loop : tie.MeasureT-loop
 μ-loop symbol arity row st count v₀ v = count - v
 
--- src/step.rt:110:5
 loop-holds : tie.Need-loop-holds Inv-loop μ-loop
 loop-holds c p = not-yet (equals p) (length (tableOf (p .ts) (p .reached)))
 
--- src/step.rt:111:13
 mul-if1 : tie.Need-mul-if1 Inv-loop μ-loop
 mul-if1 c = omega (arith, count-fits (c .before .before .pre))
 
--- src/step.rt:111:13
 element-copy-out-if1 : tie.Need-element-copy-out-if1 Inv-loop μ-loop
 element-copy-out-if1 c = omega (arith, count-fits (c .before .before .pre))
 
--- src/step.rt:111:41
 element-copy-out-if1-2 : tie.Need-element-copy-out-if1-2 Inv-loop μ-loop
 element-copy-out-if1-2 c = omega (arith, count-fits (c .before .before .before .pre))
 
--- src/step.rt:111:67
 element-copy-out-if1-3 : tie.Need-element-copy-out-if1-3 Inv-loop μ-loop
 element-copy-out-if1-3 c = omega (arith, count-fits (c .before .before .before .before .pre))
 
--- src/step.rt:112:25
 mul-other : tie.Need-mul-other Inv-loop μ-loop
 mul-other c = omega (arith, count-fits (c .before .before .before .before .before .before .pre))
 
--- src/step.rt:112:25
 element-copy-out-other : tie.Need-element-copy-out-other Inv-loop μ-loop
 element-copy-out-other c = omega (arith, count-fits (c .before .before .before .before .before .before .pre))
 
--- src/step.rt:113:16
 same-row-requires : tie.Need-same-row-requires Inv-loop μ-loop
 same-row-requires c κs = (rows-length (c .before .before .before .before .before .before .before .pre) (c .before .before .before .before .before .before .loop .v) (c .before .before .before .before .before .loop-test .taken), row-length (c .before .before .before .before .before .before .before .pre))
 
--- src/step.rt:114:17
 returns : tie.Need-returns Inv-loop μ-loop
 returns c p = equal-found p (c .before .before .before .before .before .before .before .before .loop .v) (c .before .before .before .before .before .before .before .loop-test .taken) (c .before .before .before .before .before .before .before .before .loop .inv p) (c .before .before .before .if1 .taken) (sym (c .before .same-row .ensures) ∙ c .if2 .taken)
 
--- src/step.rt:117:9
 add-v : tie.Need-add-v Inv-loop μ-loop
 add-v c = omega (arith, count-fits (c .before .before .before .before .before .before .pre))
 
--- src/step.rt:110:5
 loop-less : tie.Need-loop-less Inv-loop μ-loop
 loop-less c = omega arith
 
--- src/step.rt:110:5
 loop-again : tie.Need-loop-again Inv-loop μ-loop
 loop-again c p =
     let v = c .before .before .before .before .before .loop .v in
@@ -76,7 +61,6 @@ loop-again c p =
     (λ w. unlike-more p v more inv (w .left))
     (c .if1 .came)
 
--- src/step.rt:104:1
 returns-2 : tie.Need-returns-2 Inv-loop μ-loop
 returns-2 c p = equal-none p (c .before .loop .v) (c .before .loop .inv p) (c .loop-test .left)
 
