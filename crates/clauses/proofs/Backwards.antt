@@ -9,11 +9,11 @@ use Rattle.tables.specs.Terms.{Term}
 use Rattle.tables.specs.LiteralTable.{Literal}
 use Rattle.closure.specs.Graph.{Graph, Hop, Path, joined, path}
 use Rattle.closure.specs.Walks.{HopOf}
-use Rattle.closure.proofs.Joined.{joined-sym}
-use Rattle.closure.proofs.Invariant.{SoundGraph}
-use Rattle.closure.proofs.OnePath.{turned, backwards, backwards-append, mem-backwards, backwards-mem, path-back}
-use Rattle.closure.proofs.Parents.{hop-sound, path-hop, parent-hop}
-use Rattle.closure.proofs.ParentPaths.{parent-back}
+use Rattle.closure.proofs.Walking.Joined.{joined-sym}
+use Rattle.closure.proofs.Walking.Invariant.{SoundGraph}
+use Rattle.closure.proofs.Walking.OnePath.{turned, backwards, backwards-append, mem-backwards, backwards-mem, path-back}
+use Rattle.closure.proofs.Walking.Parents.{hop-sound, path-hop, parent-hop}
+use Rattle.closure.proofs.Walking.ParentPaths.{parent-back}
 use Rattle.clauses.specs.Factors.{Factor, factors}
 use Rattle.clauses.specs.Premises.{Premise, own, parent}
 use Rattle.clauses.specs.Reading.{endOf}

@@ -19,9 +19,9 @@ use Rattle.tables.proofs.Terms.{value-append, lower-append}
 use Rattle.tables.proofs.Colours.{SidesWithin, part-colourable, colourable-append}
 use Rattle.closure.specs.Graph.{Graph, Hop, Path, joined, path}
 use Rattle.closure.specs.Walks.{Walk}
-use Rattle.closure.proofs.Walks.{path-walk, walk-hop}
-use Rattle.closure.proofs.Invariant.{SoundGraph}
-use Rattle.closure.proofs.Parents.{SoundHop, hop-sound}
+use Rattle.closure.proofs.Walking.Walks.{path-walk, walk-hop}
+use Rattle.closure.proofs.Walking.Invariant.{SoundGraph}
+use Rattle.closure.proofs.Walking.Parents.{SoundHop, hop-sound}
 use Rattle.clauses.specs.Clauses.{between, Clause, differs}
 use Rattle.clauses.specs.Premises.{premises, pathClauses}
 use Rattle.clauses.specs.Reading.{Stretches, stretches, notMiddle, outerPremises, readA, readBetween, summary}

@@ -11,8 +11,8 @@ use Rattle.tables.specs.Words.{Pair}
 use Rattle.tables.specs.Terms.{Term}
 use Rattle.closure.specs.Graph.{Graph, Hop, Path, path, parentPaths}
 use Rattle.closure.specs.Walks.{HopOf}
-use Rattle.closure.proofs.Walks.{older-fewer}
-use Rattle.closure.proofs.Parents.{path-hop, parent-hop}
+use Rattle.closure.proofs.Walking.Walks.{older-fewer}
+use Rattle.closure.proofs.Walking.Parents.{path-hop, parent-hop}
 use Rattle.clauses.specs.Clauses.{Clause}
 use Rattle.clauses.specs.Factors.{Factor, factors}
 use Rattle.clauses.specs.Premises.{premises, pathClauses, Premise, own, parent, ListsPremises, PathClause, inside, whole, under}

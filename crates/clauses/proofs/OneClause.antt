@@ -18,12 +18,12 @@ use Rattle.tables.specs.Interpretations.{Interpretation, Satisfies}
 use Rattle.tables.proofs.Colours.{SidesWithin}
 use Rattle.closure.specs.Graph.{Graph, Hop, Path, joined, path, parentPaths}
 use Rattle.closure.specs.Walks.{Walk, hop, IsPath}
-use Rattle.closure.proofs.Joined.{joined-sym}
-use Rattle.closure.proofs.Walks.{older-fewer, older-joined, walk-joined, walk-hop}
-use Rattle.closure.proofs.Invariant.{SoundGraph}
-use Rattle.closure.proofs.OnePath.{path-is, path-older, one-path, stretch-is}
-use Rattle.closure.proofs.Parents.{hop-sound}
-use Rattle.closure.proofs.ParentPaths.{sound-forest, path-ends-differ, parent-in}
+use Rattle.closure.proofs.Walking.Joined.{joined-sym}
+use Rattle.closure.proofs.Walking.Walks.{older-fewer, older-joined, walk-joined, walk-hop}
+use Rattle.closure.proofs.Walking.Invariant.{SoundGraph}
+use Rattle.closure.proofs.Walking.OnePath.{path-is, path-older, one-path, stretch-is}
+use Rattle.closure.proofs.Walking.Parents.{hop-sound}
+use Rattle.closure.proofs.Walking.ParentPaths.{sound-forest, path-ends-differ, parent-in}
 use Rattle.clauses.specs.Clauses.{between, Clause, Conclusion, equals, falsum}
 use Rattle.clauses.specs.Factors.{Factor, factors}
 use Rattle.clauses.specs.Premises.{endsOf, pathClauses, Premise, own, parent, ListsPremises, PathClause, inside, whole, under}

@@ -13,9 +13,9 @@ use Rattle.tables.specs.Colours.{colourable}
 use Rattle.tables.proofs.Colours.{colourable-symbol, symbols-colourable, colourable-argument}
 use Rattle.closure.specs.Graph.{Graph, Hop, Path, path, parentPaths}
 use Rattle.closure.specs.Walks.{HopOf, Walk, stay, hop}
-use Rattle.closure.proofs.Walks.{walk-hop}
-use Rattle.closure.proofs.Invariant.{SoundGraph}
-use Rattle.closure.proofs.Parents.{hop-sound}
+use Rattle.closure.proofs.Walking.Walks.{walk-hop}
+use Rattle.closure.proofs.Walking.Invariant.{SoundGraph}
+use Rattle.closure.proofs.Walking.Parents.{hop-sound}
 use Rattle.clauses.specs.Clauses.{between, Clause}
 use Rattle.clauses.specs.Factors.{Factor, factors}
 use Rattle.clauses.specs.Premises.{endsOf, premises, pathClauses}

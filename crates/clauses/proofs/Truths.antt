@@ -15,10 +15,10 @@ use Rattle.tables.specs.Interpretations.{Interpretation, value}
 use Rattle.tables.proofs.Terms.{value-law}
 use Rattle.closure.specs.Graph.{Graph, Hop, Path, joined, path, parentPaths}
 use Rattle.closure.specs.Walks.{HopOf, Walk, stay, hop}
-use Rattle.closure.proofs.Joined.{joined-sym}
-use Rattle.closure.proofs.Walks.{older-each, older-fewer, older-joined, path-walk, walk-joined, walk-hop}
-use Rattle.closure.proofs.Invariant.{SoundEdge, SoundGraph}
-use Rattle.closure.proofs.Parents.{hop-sound, parent-walk, hop-agree}
+use Rattle.closure.proofs.Walking.Joined.{joined-sym}
+use Rattle.closure.proofs.Walking.Walks.{older-each, older-fewer, older-joined, path-walk, walk-joined, walk-hop}
+use Rattle.closure.proofs.Walking.Invariant.{SoundEdge, SoundGraph}
+use Rattle.closure.proofs.Walking.Parents.{hop-sound, parent-walk, hop-agree}
 use Rattle.clauses.specs.Clauses.{between, Clause}
 use Rattle.clauses.specs.Factors.{Factor, factors}
 use Rattle.clauses.specs.Premises.{endsOf, premises, pathClauses}

@@ -17,11 +17,11 @@ use Rattle.tables.proofs.Colours.{inUse-within}
 use Rattle.tables.proofs.Sound.{SoundTables, length-termsOf, termAt-termsOf, arity-small, lower-arguments, sides-within}
 use Rattle.closure.specs.Graph.{Graph, joined, joinedPairwise}
 use Rattle.closure.specs.Steps.{State, tableOf, congruent, Run}
-use Rattle.closure.proofs.Congruent.{pairwise-agree, congruent-symbol, congruent-arguments}
-use Rattle.closure.proofs.Vertices.{added-vertex}
-use Rattle.closure.proofs.States.{SoundState, Known}
-use Rattle.closure.proofs.Runs.{run-sound, run-known}
-use Rattle.closure.proofs.FewSteps.{few-added}
+use Rattle.closure.proofs.Running.Congruent.{pairwise-agree, congruent-symbol, congruent-arguments}
+use Rattle.closure.proofs.Running.Vertices.{added-vertex}
+use Rattle.closure.proofs.Running.States.{SoundState, Known}
+use Rattle.closure.proofs.Running.Runs.{run-sound, run-known}
+use Rattle.closure.proofs.Running.FewSteps.{few-added}
 use Rattle.engine.proofs.AddedTerms.{TermFits}
 
 -- a byte of a table is below 256, and so is what stands for one that is not there

@@ -11,7 +11,7 @@ use Rattle.tables.specs.LiteralTable.{Kind, equal, different, isEqual, Literal}
 use Rattle.tables.specs.declared.Side.the-variants.{A}
 use Rattle.tables.proofs.Words.{and-left, and-right, and-both, getD-mem, mem-getD, firstBelow-some, firstBelow-none}
 use Rattle.closure.specs.Graph.{Graph, joined}
-use Rattle.closure.proofs.Classes.{Apart}
+use Rattle.closure.proofs.Entailing.Classes.{Apart}
 use Rattle.clauses.specs.Reading.{literalAt, contradicted, critical}
 
 -- a record of kind 2 whose sides are joined

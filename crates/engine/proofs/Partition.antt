@@ -18,7 +18,7 @@ use Rattle.tables.specs.Colours.{inUse}
 use Rattle.tables.proofs.Words.{and-left, and-right, and-both, by-test, passes, fails, passed, failed, below-or-is, length-below, firstBelow-some, firstBelow-none, first-one}
 use Rattle.tables.proofs.WordBytes.{word-read, record-read, records-length}
 use Rattle.closure.specs.Graph.{Graph, joined}
-use Rattle.closure.proofs.Joined.{joined-self, joined-sym, joined-trans}
+use Rattle.closure.proofs.Walking.Joined.{joined-self, joined-sym, joined-trans}
 use Rattle.engine.specs.Buffers.{classNumber, partitionBytes, writtenOver, classAt}
 
 -- one list after the other is the same said of the list of them

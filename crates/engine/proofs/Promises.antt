@@ -23,11 +23,11 @@ use Rattle.tables.proofs.Words.{and-left, and-right, and-both}
 use Rattle.tables.proofs.Sound.{SoundTables, sound, length-termsOf, lower-arguments, sides-within}
 use Rattle.closure.specs.Graph.{joined}
 use Rattle.closure.specs.Steps.{State, tableOf, Run, NoStepLeft}
-use Rattle.closure.proofs.States.{SoundState}
-use Rattle.closure.proofs.Runs.{run-sound}
-use Rattle.closure.proofs.OwnRun.{own-run}
-use Rattle.closure.proofs.FewSteps.{fewer-steps, few-added, own-run-complete}
-use Rattle.closure.proofs.AllRuns as runs
+use Rattle.closure.proofs.Running.States.{SoundState}
+use Rattle.closure.proofs.Running.Runs.{run-sound}
+use Rattle.closure.proofs.Running.OwnRun.{own-run}
+use Rattle.closure.proofs.Running.FewSteps.{fewer-steps, few-added, own-run-complete}
+use Rattle.closure.proofs.Entailing.AllRuns as runs
 use Rattle.clauses.specs.Clauses.{Clause}
 use Rattle.clauses.specs.Reading.{literalAt, critical, summary}
 use Rattle.clauses.specs.Records.{standing}

@@ -18,7 +18,7 @@ use Rattle.tables.proofs.Words.{by-test, passes, fails, passed, failed}
 use Rattle.tables.proofs.Sound.{SoundTables, sound, lower-arguments, sides-within, refused-number}
 use Rattle.closure.specs.Steps.{State, tableOf}
 use Rattle.closure.specs.OwnRun.{ownRun}
-use Rattle.closure.proofs.OwnRun.{own-run-never-stuck}
+use Rattle.closure.proofs.Running.OwnRun.{own-run-never-stuck}
 use Rattle.clauses.specs.Reading.{literalAt, critical, summary}
 use Rattle.clauses.proofs.Records.{clauseBytes-length}
 use Rattle.engine.proofs.AddedTerms.{addedBytes-length}

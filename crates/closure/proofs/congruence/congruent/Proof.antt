@@ -5,7 +5,7 @@ use native.Mathlib.Nat.{not-suc-le-zero}
 use native.Mathlib.Omega.{arith}
 use borrow.Author.Count.{below-more}
 use Rattle.closure.specs.Keys.{fieldLabel}
-use Rattle.closure.proofs.Agreeing.{fields-joined, fields-apart}
+use Rattle.closure.proofs.InArrays.Agreeing.{fields-joined, fields-apart}
 use Rattle.closure.proofs.congruence.congruent.Statement.{statement}
 use Rattle.closure.proofs.congruence.congruent.Tie as tie
 

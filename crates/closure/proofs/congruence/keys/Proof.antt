@@ -7,8 +7,8 @@ use native.Mathlib.Omega.{arith}
 use lib.ListN.{getD}
 use Rattle.tables.proofs.Records.{Filling, filling-none, filling-more, filling-all}
 use Rattle.closure.specs.Keys.{noRow, keyOf, keysOf}
-use Rattle.closure.proofs.Arrays.{filling-kept}
-use Rattle.closure.proofs.Agreeing.{key-place, no-key}
+use Rattle.closure.proofs.InArrays.Arrays.{filling-kept}
+use Rattle.closure.proofs.InArrays.Agreeing.{key-place, no-key}
 use Rattle.closure.proofs.congruence.keys.Statement.{statement}
 use Rattle.closure.proofs.congruence.keys.Tie as tie
 

@@ -3,7 +3,7 @@ use mathlib.Core.Path.{refl}
 use Prim.Native.Nat.{_-_}
 use native.Mathlib.Omega.{arith}
 use Rattle.tables.proofs.Records.{Filling, filling-none, filling-more}
-use Rattle.closure.proofs.LabelArray.{own-labels}
+use Rattle.closure.proofs.InArrays.LabelArray.{own-labels}
 use Rattle.closure.proofs.labels.own_labels.Statement.{statement}
 use Rattle.closure.proofs.labels.own_labels.Tie as tie
 

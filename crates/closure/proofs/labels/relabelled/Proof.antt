@@ -7,8 +7,8 @@ use native.Mathlib.Omega.{arith}
 use borrow.Author.Needs.{needs}
 use lib.Dec.{eqb}
 use lib.ListN.{length}
-use Rattle.closure.proofs.Arrays.{Changing, changing-set, changing-kept, changing-all}
-use Rattle.closure.proofs.LabelArray.{relabel-to, relabel-kept}
+use Rattle.closure.proofs.InArrays.Arrays.{Changing, changing-set, changing-kept, changing-all}
+use Rattle.closure.proofs.InArrays.LabelArray.{relabel-to, relabel-kept}
 use Rattle.closure.proofs.labels.relabelled.Statement.{statement}
 use Rattle.closure.proofs.labels.relabelled.Tie as tie
 

@@ -2,7 +2,7 @@
 use native.Mathlib.Omega.{arith}
 use Prim.Native.Nat.{_+_, _≤_, _-_}
 use native.Mathlib.Nat.{le-of-lt}
-use Rattle.closure.proofs.Climbs.{Climbing, climbing-none, climbing-room, climbing-left, climbing-right, climbing-met}
+use Rattle.closure.proofs.InArrays.Climbs.{Climbing, climbing-none, climbing-room, climbing-left, climbing-right, climbing-met}
 use Rattle.closure.proofs.paths.path.Statement.{statement}
 use Rattle.closure.proofs.paths.path.Tie as tie
 

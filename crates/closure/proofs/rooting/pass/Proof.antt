@@ -7,7 +7,7 @@ use Rattle.closure.specs.Forests.{EndsBelow}
 use Rattle.closure.specs.Layout.{noEdge, lastFirst, newestFirst, edgesOf}
 use Rattle.closure.specs.Rooting.{Closed}
 use Rattle.closure.specs.declared.rooting.Rooting.{Rooting}
-use Rattle.closure.proofs.Rooted.{Passing, reached-within, ends-here, reach-left, reach-right, reach-none}
+use Rattle.closure.proofs.InArrays.Rooted.{Passing, reached-within, ends-here, reach-left, reach-right, reach-none}
 use Rattle.closure.proofs.rooting.pass.Statement.{statement}
 use Rattle.closure.proofs.rooting.pass.Tie as tie
 

@@ -3,7 +3,7 @@ use native.Mathlib.Omega.{arith}
 use Prim.Native.Nat.{_-_}
 use Rattle.closure.specs.Layout.{edgesOf}
 use Rattle.closure.specs.Rooting.{Growing}
-use Rattle.closure.proofs.Rooted.{all-rooted, reached-within}
+use Rattle.closure.proofs.InArrays.Rooted.{all-rooted, reached-within}
 use Rattle.closure.proofs.rooting.rooted.Statement.{statement}
 use Rattle.closure.proofs.rooting.rooted.Tie as tie
 

@@ -2,7 +2,7 @@
 use native.Mathlib.Omega.{arith}
 use mathlib.Core.Logic.{⊎-elim}
 use Prim.Native.Nat.{_-_}
-use Rattle.closure.proofs.Rooted.{positives-length, Marking, marking-same, marking-none, marking-root, marking-other, marking-growing}
+use Rattle.closure.proofs.InArrays.Rooted.{positives-length, Marking, marking-same, marking-none, marking-root, marking-other, marking-growing}
 use Rattle.closure.proofs.rooting.roots.Statement.{statement}
 use Rattle.closure.proofs.rooting.roots.Tie as tie
 

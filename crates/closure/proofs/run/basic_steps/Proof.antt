@@ -7,7 +7,7 @@ use Rattle.tables.specs.TermTable.{termsOf}
 use Rattle.tables.specs.LiteralTable.{literalsOf}
 use Rattle.closure.specs.declared.state.State.{State as Arrays}
 use Rattle.closure.specs.Opening.{ReadFrom, Opens}
-use Rattle.closure.proofs.BasicSteps.{ShowsAfter, literals-fit, sides-small, after-none, after-all, after-edges, turn-taken, turn-left}
+use Rattle.closure.proofs.InArrays.BasicSteps.{ShowsAfter, literals-fit, sides-small, after-none, after-all, after-edges, turn-taken, turn-left}
 use Rattle.closure.proofs.run.basic_steps.Statement.{statement}
 use Rattle.closure.proofs.run.basic_steps.Tie as tie
 

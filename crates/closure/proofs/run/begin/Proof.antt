@@ -5,7 +5,7 @@ use mathlib.Core.Path.{refl}
 use Prim.Native.Nat.{_-_}
 use native.Mathlib.Omega.{arith}
 use Rattle.tables.proofs.Records.{filling-none, filling-more}
-use Rattle.closure.proofs.Beginning.{Copied, terms-fit, opens}
+use Rattle.closure.proofs.InArrays.Beginning.{Copied, terms-fit, opens}
 use Rattle.closure.proofs.run.begin.Statement.{statement}
 use Rattle.closure.proofs.run.begin.Tie as tie
 

@@ -6,7 +6,7 @@ use borrow.Author.Needs.{needs}
 use lib.ListN.{length}
 use Rattle.closure.specs.Keys.{pairOf}
 use Rattle.closure.specs.Stepping.{OnRun}
-use Rattle.closure.proofs.OwnTurns.{orderly, found-derivable, TurnsLeft, all-left, onward, no-turn-left, no-pair-left, turn-stuck, turn-taken}
+use Rattle.closure.proofs.InArrays.OwnTurns.{orderly, found-derivable, TurnsLeft, all-left, onward, no-turn-left, no-pair-left, turn-stuck, turn-taken}
 use Rattle.closure.proofs.run.derived_steps.Statement.{statement}
 use Rattle.closure.proofs.run.derived_steps.Tie as tie
 

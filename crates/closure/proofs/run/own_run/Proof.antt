@@ -1,5 +1,5 @@
 -- `closure::run::own_run` meets its contract: the state before the first step, the basic steps, and the turns.
-use Rattle.closure.proofs.OwnTurns.{after-basic, turns-given, ends}
+use Rattle.closure.proofs.InArrays.OwnTurns.{after-basic, turns-given, ends}
 use borrow.Author.Needs.{needs}
 use Rattle.closure.proofs.run.own_run.Statement.{statement}
 use Rattle.closure.proofs.run.own_run.Tie as tie

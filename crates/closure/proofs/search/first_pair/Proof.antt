@@ -11,7 +11,7 @@ use Rattle.closure.specs.Shown.{labelsOf}
 use Rattle.closure.specs.Keys.{candidate, NextFrom}
 use Rattle.closure.specs.declared.Partner.{Partner}
 use Rattle.closure.specs.declared.Partner.the-variants.{At, Nothing}
-use Rattle.closure.proofs.PairTest.{NoneBefore, before-start, before-found, before-past, before-next, tested, found-first, found-none, tested-candidate, rows-refuse, rows-accept}
+use Rattle.closure.proofs.InArrays.PairTest.{NoneBefore, before-start, before-found, before-past, before-next, tested, found-first, found-none, tested-candidate, rows-refuse, rows-accept}
 use Rattle.closure.proofs.search.first_pair.Statement.{statement}
 use Rattle.closure.proofs.search.first_pair.Tie as tie
 

@@ -4,7 +4,7 @@ use Prim.Native.Nat.{ℕ, _-_, _≤_, _<_}
 use native.Mathlib.Omega.{arith}
 use lib.Dec.{T}
 use Rattle.closure.specs.Keys.{candidate}
-use Rattle.closure.proofs.Candidates.{no-candidate, other-key, other-test, is-candidate, not-next}
+use Rattle.closure.proofs.InArrays.Candidates.{no-candidate, other-key, other-test, is-candidate, not-next}
 use Rattle.closure.proofs.search.partner.Statement.{statement}
 use Rattle.closure.proofs.search.partner.Tie as tie
 

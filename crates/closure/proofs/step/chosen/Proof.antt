@@ -5,7 +5,7 @@ use Prim.Native.Nat.{_-_}
 use native.Mathlib.Omega.{arith}
 use borrow.Author.Needs.{needs}
 use Rattle.closure.specs.Stepping.{metOf, Choosing}
-use Rattle.closure.proofs.Choices.{Chosen, chosen-nothing, chosen-all, chosen-stuck, chosen-more, can-walk, walks, stops-fit, stops-below, met-is, hands-none, hands-some}
+use Rattle.closure.proofs.InArrays.Choices.{Chosen, chosen-nothing, chosen-all, chosen-stuck, chosen-more, can-walk, walks, stops-fit, stops-below, met-is, hands-none, hands-some}
 use Rattle.closure.proofs.step.chosen.Statement.{statement}
 use Rattle.closure.proofs.step.chosen.Tie as tie
 

@@ -1,7 +1,7 @@
 -- `closure::step::derived_step` meets its contract: the numbers of the colours say which of the four ways is taken.
 use mathlib.Core.Path.{refl}
 use borrow.Author.Tests.{eq-eqb, ne-eqb}
-use Rattle.closure.proofs.DerivedSteps.{left-small, right-small, room-b, outcome-b, room-a, outcome-a, apart-left, outcome-left, apart-right, outcome-right}
+use Rattle.closure.proofs.InArrays.DerivedSteps.{left-small, right-small, room-b, outcome-b, room-a, outcome-a, apart-left, outcome-left, apart-right, outcome-right}
 use Rattle.closure.proofs.step.derived_step.Statement.{statement}
 use Rattle.closure.proofs.step.derived_step.Tie as tie
 

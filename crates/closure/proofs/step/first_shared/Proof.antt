@@ -5,7 +5,7 @@ use borrow.Author.Tests.{eq-eqb, ne-eqb}
 use borrow.Author.Needs.{needs}
 use lib.Dec.{eqb}
 use lib.ListN.{getD}
-use Rattle.closure.proofs.Stops.{Failed, failed-none, failed-more, failed-until, failed-all}
+use Rattle.closure.proofs.InArrays.Stops.{Failed, failed-none, failed-more, failed-until, failed-all}
 use Rattle.closure.proofs.step.first_shared.Statement.{statement}
 use Rattle.closure.proofs.step.first_shared.Tie as tie
 

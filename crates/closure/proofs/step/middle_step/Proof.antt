@@ -1,6 +1,6 @@
 -- `closure::step::middle_step` meets its contract: the rooted forest gives the choice, the middle term is put in its place, and both ends are tied to it.
 use mathlib.Core.Path.{refl}
-use Rattle.closure.proofs.OnRuns.{vertex-small, can-root, choosing, choice-found, placing, put-shown, not-both, middle-small, first-room, second-room, middle-outcome}
+use Rattle.closure.proofs.InArrays.OnRuns.{vertex-small, can-root, choosing, choice-found, placing, put-shown, not-both, middle-small, first-room, second-room, middle-outcome}
 use borrow.Author.Needs.{needs}
 use Rattle.closure.proofs.step.middle_step.Statement.{statement}
 use Rattle.closure.proofs.step.middle_step.Tie as tie

@@ -1,6 +1,6 @@
 -- `closure::step::placed` meets its contract: the vertex that was found stays, and where there is none the term is added.
 use native.Mathlib.Omega.{arith}
-use Rattle.closure.proofs.EqualVertex.{count-is, number-fits, number-none, placed-there, placed-new}
+use Rattle.closure.proofs.InArrays.EqualVertex.{count-is, number-fits, number-none, placed-there, placed-new}
 use borrow.Author.Needs.{needs}
 use Rattle.closure.proofs.step.placed.Statement.{statement}
 use Rattle.closure.proofs.step.placed.Tie as tie

@@ -1,6 +1,6 @@
 -- `closure::step::tied` meets its contract: nothing is done where the labels are the same, else there is one edge more.
 use borrow.Author.Needs.{needs}
-use Rattle.closure.proofs.Tying.{shows-joined, shows-tied}
+use Rattle.closure.proofs.InArrays.Tying.{shows-joined, shows-tied}
 use Rattle.closure.proofs.step.tied.Statement.{statement}
 use Rattle.closure.proofs.step.tied.Tie as tie
 

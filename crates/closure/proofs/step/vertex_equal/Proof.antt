@@ -7,7 +7,7 @@ use lib.ListN.{length}
 use Rattle.tables.proofs.Records.{NotYet, not-yet}
 use Rattle.closure.specs.Steps.{tableOf}
 use Rattle.closure.specs.Stepping.{Placing}
-use Rattle.closure.proofs.EqualVertex.{count-fits, equals, row-length, rows-length, unlike-more, other-more, equal-found, equal-none}
+use Rattle.closure.proofs.InArrays.EqualVertex.{count-fits, equals, row-length, rows-length, unlike-more, other-more, equal-found, equal-none}
 use Rattle.closure.proofs.step.vertex_equal.Statement.{statement}
 use Rattle.closure.proofs.step.vertex_equal.Tie as tie
 

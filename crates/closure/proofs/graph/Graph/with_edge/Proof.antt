@@ -4,7 +4,7 @@ use native.Mathlib.Omega.{arith}
 use mathlib.Core.Path.{_≡_, refl}
 use lib.ListN.{length}
 use Rattle.closure.specs.Layout.{noEdge, edgesOf}
-use Rattle.closure.proofs.Numbered.{struct-length, lastFirst-more}
+use Rattle.closure.proofs.InArrays.Numbered.{struct-length, lastFirst-more}
 use Rattle.closure.proofs.graph.Graph.with_edge.Statement.{statement}
 use Rattle.closure.proofs.graph.Graph.with_edge.Tie as tie
 

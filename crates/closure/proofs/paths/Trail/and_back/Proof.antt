@@ -3,7 +3,7 @@ use borrow.Author.Needs.{needs}
 use native.Mathlib.Omega.{arith}
 use mathlib.Core.Path.{refl}
 use Prim.Native.Nat.{_≤_}
-use Rattle.closure.proofs.Climbs.{Returning, returning-more, returning-all}
+use Rattle.closure.proofs.InArrays.Climbs.{Returning, returning-more, returning-all}
 use Rattle.closure.proofs.paths.Trail.and_back.Statement.{statement}
 use Rattle.closure.proofs.paths.Trail.and_back.Tie as tie
 

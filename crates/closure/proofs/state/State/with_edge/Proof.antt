@@ -1,6 +1,6 @@
 -- `closure::state::State::with_edge` meets its contract: the graph and the labels are those of one edge more, and nothing else changes.
 use borrow.Author.Needs.{needs}
-use Rattle.closure.proofs.Showing.{shows-edge}
+use Rattle.closure.proofs.InArrays.Showing.{shows-edge}
 use Rattle.closure.proofs.state.State.with_edge.Statement.{statement}
 use Rattle.closure.proofs.state.State.with_edge.Tie as tie
 

@@ -1,6 +1,6 @@
 -- `closure::state::State::with_term` meets its contract: each array has one place more.
 use borrow.Author.Needs.{needs}
-use Rattle.closure.proofs.Showing.{shows-term}
+use Rattle.closure.proofs.InArrays.Showing.{shows-term}
 use Rattle.closure.proofs.state.State.with_term.Statement.{statement}
 use Rattle.closure.proofs.state.State.with_term.Tie as tie
 

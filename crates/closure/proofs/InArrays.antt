@@ -1,0 +1,20 @@
+-- How the code's arrays show a state, a graph and its paths.
+pub mod Agreeing
+pub mod Arrays
+pub mod BasicSteps
+pub mod Beginning
+pub mod Candidates
+pub mod Choices
+pub mod Climbs
+pub mod DerivedSteps
+pub mod EqualVertex
+pub mod FirstPair
+pub mod LabelArray
+pub mod Numbered
+pub mod OnRuns
+pub mod OwnTurns
+pub mod PairTest
+pub mod Rooted
+pub mod Showing
+pub mod Stops
+pub mod Tying

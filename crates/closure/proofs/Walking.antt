@@ -1,0 +1,8 @@
+-- Walks and paths of a graph.
+pub mod Joined
+pub mod Walks
+pub mod Invariant
+pub mod OnePath
+pub mod Parents
+pub mod ParentPaths
+pub mod Count
