@@ -112,7 +112,7 @@ pub factors-longest : (π : Path) → LongestStretches π (factors π)
 factors-longest π = record { whole = factors-whole π; stretch = λ f m. factors-stretch π m; alternate = factors-alternate π }
 
 -- the stretch that has these hops, all of the first one's colour
-abbrev stretchOf : Hop → Path → Factor
+abbrev pub stretchOf : Hop → Path → Factor
 stretchOf h ρ = record { colour = h .colour; from = h .from; to = endOf (h .to) ρ; hops = h ∷ ρ }
 
 -- a hop lengthens the first factor where that has its colour
@@ -131,7 +131,7 @@ inFront-other h (f ∷ fs) (other-next d a) = go (sameSide (h .colour) (f .colou
     go false e = refl
 
 -- a stretch of one colour before a path whose first factor has the other colour is the first factor of both together
-factors-front : (h : Hop) (ρ π : Path) → ((g : Hop) → List·Memᴰ g ρ → g .colour ≡ h .colour) → Alternate (alone h ∷ factors π) → factors ((h ∷ ρ) ++ π) ≡ stretchOf h ρ ∷ factors π
+pub factors-front : (h : Hop) (ρ π : Path) → ((g : Hop) → List·Memᴰ g ρ → g .colour ≡ h .colour) → Alternate (alone h ∷ factors π) → factors ((h ∷ ρ) ++ π) ≡ stretchOf h ρ ∷ factors π
 unfolding factors endOf
 factors-front h [] π colours a = inFront-other h (factors π) a
 factors-front h (g ∷ ρ) π colours a =

@@ -172,7 +172,7 @@ pub record FromPaths (table : List Term) (G : Graph) (cs : List Clause) : Type 0
   pub each : (c : Clause) → List·Memᴰ c cs → OfPath table G c ⊎ (c ≡ last)
 
 -- of these, a clause that concludes an equality has the premises of the path between its ends
-from-paths-premises : {table : List Term} {G : Graph} {cs : List Clause} → FromPaths table G cs → {c : Clause} {p : Pair} → List·Memᴰ c cs → c .conclusion ≡ equals p → (q : Pair) → List·Memᴰ q (c .premises) ↔ Premise table q (path G (p .left) (p .right))
+pub from-paths-premises : {table : List Term} {G : Graph} {cs : List Clause} → FromPaths table G cs → {c : Clause} {p : Pair} → List·Memᴰ c cs → c .conclusion ≡ equals p → (q : Pair) → List·Memᴰ q (c .premises) ↔ Premise table q (path G (p .left) (p .right))
 unfolding isLast
 from-paths-premises {table} {G} from {c} {p} m e q = go (from .each c m)
   where

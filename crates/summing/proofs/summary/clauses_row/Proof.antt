@@ -1,0 +1,82 @@
+-- `clauses_row` meets its contract: the clauses of the columns passed are written.
+use mathlib.Core.Logic.{⊎-elim}
+use Prim.Native.Nat.{_-_}
+use native.Mathlib.Omega.{arith}
+use Rattle.tables.specs.Words.{pair}
+use Rattle.tables.proofs.Words.{passes}
+use Rattle.summing.proofs.ClausesOut.{RowClauses, row-clauses-none, row-clauses-skip, row-clauses-take, row-clauses-all, row-clauses-named, readable-one}
+use Rattle.summing.proofs.summary.clauses_row.Statement.{statement}
+use Rattle.summing.proofs.summary.clauses_row.Tie as tie
+use Rattle.summing.proofs.summary.clauses_row.Reads as reads
+use Rattle.summing.proofs.summary.clauses_row.Lts as lts
+use Rattle.summing.proofs.summary.clause_out.Reads as clause-out-reads
+
+abbrev Inv-loop : tie.InvT-loop
+Inv-loop args arities toward by rank lefts rights inb derived count vertices u pairs found₀ out₀ at n₀ v₀ found out n v =
+    RowClauses args arities toward by rank lefts rights inb derived count vertices pairs u at out₀ v n found out
+
+abbrev μ-loop : tie.MeasureT-loop
+μ-loop args arities toward by rank lefts rights inb derived count vertices u pairs found₀ out₀ at n₀ v₀ found out n v = vertices - v
+
+add-v : tie.Need-add-v Inv-loop μ-loop
+add-v c = omega (arith, c .before .pre .1 .0)
+
+loop-holds : tie.Need-loop-holds Inv-loop μ-loop
+loop-holds c = row-clauses-none _ _ _ _ _ _ _ _ _ _ _ _ _ _ _ (c .before .pre .1 .0 .0) _ (c .before .pre .1 .1 .0) (c .before .pre .1 .1 .1)
+
+mul-if1 : tie.Need-mul-if1 Inv-loop μ-loop
+mul-if1 c = omega (arith, c .before .before .before .pre .1 .0, c .loop-test .taken)
+
+cast-if1 : tie.Need-cast-if1 Inv-loop μ-loop
+cast-if1 c = omega (arith, c .before .before .before .pre .1 .0, c .loop-test .taken)
+
+add-if1 : tie.Need-add-if1 Inv-loop μ-loop
+add-if1 c = omega (arith, c .before .before .before .pre .1 .0, c .loop-test .taken)
+
+element-copy-out-if1 : tie.Need-element-copy-out-if1 Inv-loop μ-loop
+element-copy-out-if1 c = omega (arith, c .before .before .before .pre .1 .0, c .loop-test .taken)
+
+clause-out-requires : tie.Need-clause-out-requires Inv-loop μ-loop
+clause-out-requires c κs =
+    let x = c .before .before .before .before .before .loop .inv in
+    let p = c .before .before .before .before .before .before .before .pre .1 .0 in
+    let t = c .before .before .before .before .loop-test .taken in
+    (readable-one _ _ _ _ _ _ _ _ _ _ _ (c .before .before .before .before .before .before .before .args .pairs .now) (pair (c .before .before .before .before .before .before .before .args .u) (c .before .before .before .before .before .loop .v)) (passes _ (c .before .before .if1 .taken)) (c .before .before .before .before .before .before .before .pre .0), ((x .begun, t, p .1, omega (arith, x .put .few, x .within, p .1, p .2)), (x .put .sized, x .put .clear)))
+
+add-v-2 : tie.Need-add-v-2 Inv-loop μ-loop
+add-v-2 c = omega (arith, c .before .before .loop-test .taken, c .before .before .before .before .before .pre .1 .0 .1)
+
+loop-less : tie.Need-loop-less Inv-loop μ-loop
+loop-less c = omega (arith, c .before .before .loop-test .taken)
+
+loop-again : tie.Need-loop-again Inv-loop μ-loop
+loop-again c =
+    let x = c .before .before .before .loop .inv in
+    let t = c .before .before .loop-test .taken in
+    ⊎-elim (λ w. row-clauses-named _ _ _ _ _ _ _ _ _ _ _ _ _ _ _ _ _ _ _ _ _ _ (w .6) (w .7) (w .8) (row-clauses-take _ _ _ _ _ _ _ _ _ _ _ _ _ _ _ _ _ _ _ t x _ _ _ (w .0 .taken) (w .3 .ensures)))
+    (λ w. row-clauses-named _ _ _ _ _ _ _ _ _ _ _ _ _ _ _ _ _ _ _ _ _ _ (w .1) (w .2) (w .3) (row-clauses-skip _ _ _ _ _ _ _ _ _ _ _ _ _ _ _ _ _ _ _ t x (w .0 .left))) (c .if1 .came)
+
+same-length : tie.Need-same-length Inv-loop μ-loop
+same-length c = c .before .loop .inv .put .same
+
+returns : tie.Need-returns Inv-loop μ-loop
+returns c = row-clauses-all _ _ _ _ _ _ _ _ _ _ _ _ _ _ _ _ _ _ _ (c .before .before .before .pre .1 .0 .1) (c .loop-test .left) (c .before .loop .inv)
+
+pub clauses-row-spec : {M : Type 1} → statement M
+clauses-row-spec =
+    tie.close
+    (tie.spec
+    Inv-loop
+    μ-loop
+    add-v
+    loop-holds
+    mul-if1
+    cast-if1
+    add-if1
+    element-copy-out-if1
+    clause-out-requires
+    add-v-2
+    loop-less
+    loop-again
+    same-length
+    returns)

@@ -1,0 +1,59 @@
+-- `first_b` meets its contract: no stop passed is in B.
+use Prim.Native.Nat.{_-_}
+use native.Mathlib.Omega.{arith}
+use Rattle.summing.proofs.Stretching.{FirstTo, first-none, first-more, first-found, first-end}
+use Rattle.summing.proofs.summary.first_b.Statement.{statement}
+use Rattle.summing.proofs.summary.first_b.Tie as tie
+
+abbrev Inv-loop : tie.InvT-loop
+Inv-loop colours stops edges hops i₀ i = FirstTo colours stops hops i
+
+abbrev μ-loop : tie.MeasureT-loop
+μ-loop colours stops edges hops i₀ i = hops - i
+
+loop-holds : tie.Need-loop-holds Inv-loop μ-loop
+loop-holds c = first-none _ _ _
+
+mul-s : tie.Need-mul-s Inv-loop μ-loop
+mul-s c = omega (arith, c .before .before .pre .short, c .before .loop .inv .within)
+
+element-copy-out-s : tie.Need-element-copy-out-s Inv-loop μ-loop
+element-copy-out-s c = omega (arith, c .before .before .pre .short, c .before .loop .inv .within)
+
+cast-s : tie.Need-cast-s Inv-loop μ-loop
+cast-s c = omega (arith, c .before .before .before .pre .stops-low (c .before .before .loop .i) (omega (arith, c .before .loop-test .taken)))
+
+element-copy-out-if1 : tie.Need-element-copy-out-if1 Inv-loop μ-loop
+element-copy-out-if1 c = c .before .before .before .pre .stops-low (c .before .before .loop .i) (omega (arith, c .before .loop-test .taken))
+
+returns : tie.Need-returns Inv-loop μ-loop
+returns c = first-found _ _ _ _ (c .if1 .taken) (c .before .before .before .before .loop .inv)
+
+add-i : tie.Need-add-i Inv-loop μ-loop
+add-i c = omega (arith, c .before .before .before .loop-test .taken, c .before .before .before .before .before .pre .short)
+
+loop-less : tie.Need-loop-less Inv-loop μ-loop
+loop-less c = omega (arith, c .before .before .before .loop-test .taken)
+
+loop-again : tie.Need-loop-again Inv-loop μ-loop
+loop-again c = first-more _ _ _ _ (c .before .before .before .loop-test .taken) (c .if1 .left) (c .before .before .before .before .loop .inv)
+
+returns-2 : tie.Need-returns-2 Inv-loop μ-loop
+returns-2 c = first-end _ _ _ _ (c .loop-test .left) (c .before .loop .inv)
+
+pub first-b-spec : {M : Type 1} → statement M
+first-b-spec =
+    tie.close
+    (tie.spec
+    Inv-loop
+    μ-loop
+    loop-holds
+    mul-s
+    element-copy-out-s
+    cast-s
+    element-copy-out-if1
+    returns
+    add-i
+    loop-less
+    loop-again
+    returns-2)

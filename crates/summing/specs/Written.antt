@@ -1,0 +1,115 @@
+-- The clauses of a summary as the code writes them: for each pair that is concluded, the premises of the path between its ends, and the pair.
+use mathlib.Core.Bool.{Bool, true, false, cond}
+use mathlib.Core.List.{List, flatMap, List·Memᴰ}
+use mathlib.Core.Logic.{_⊎_, _↔_}
+use mathlib.Core.Path.{_≡_}
+use Prim.Native.Nat.{ℕ, _+_, _*_, _≤_, _<_}
+use lib.Dec.{T, ltb, leb}
+use lib.ListN.{length, getD}
+use Rattle.tables.specs.Words.{Pair, pair, keep, pairsBelow}
+use Rattle.tables.specs.Terms.{Term}
+use Rattle.tables.specs.LiteralTable.{Literal}
+use Rattle.tables.specs.declared.Side.{Side}
+use Rattle.tables.specs.declared.Side.the-variants.{A, B}
+use Rattle.tables.specs.Colours.{colourable}
+use Rattle.closure.specs.Graph.{Graph, Hop, Path, joined, path}
+use Rattle.closure.specs.Walks.{HopOf}
+use Rattle.clauses.specs.Clauses.{between, Clause, Conclusion, equals, differs, falsum}
+use Rattle.clauses.specs.Premises.{premises, Premise}
+use Rattle.clauses.specs.Records.{ascending, recordsOf, clauseRecords}
+use Rattle.clauses.specs.Reading.{readBetween}
+use Rattle.summing.specs.Marks.{Reached, PairWithin, PairMarked, Covered, Square, Trailed}
+use Rattle.summing.specs.Drawn.{Drawn}
+use Rattle.summing.specs.Writing.{putRecords, marked, rowPairs}
+
+-- the clause that concludes p, its premises in ascending order
+unfoldable pub clauseOf : ℕ → List Term → Graph → Pair → Clause
+unfolding ascending premises
+clauseOf n table G p = record { premises = ascending n (premises (length G) table (path G (p .left) (p .right))); conclusion = equals p }
+
+-- its records
+unfoldable pub clauseOut : ℕ → List Term → Graph → Pair → List (List ℕ)
+unfolding clauseOf recordsOf
+clauseOut n table G p = recordsOf (clauseOf n table G p)
+
+-- records are written from number `at` on, and the next number comes back
+pub record RecordsPut (rs : List (List ℕ)) (at : ℕ) (out : List ℕ) (r : ℕ) (out′ : List ℕ) : Type 0 where
+  pub count : r ≡ at + length rs
+  pub bytes : out′ ≡ putRecords at rs out
+
+-- no pair is marked
+abbrev pub Clear : List Bool → Type 0
+Clear found = (p : Pair) → PairWithin 511 p → PairMarked found p → ⊥
+
+-- the arrays hold a graph over n terms, and the pairs that are marked are joined in it
+pub record Readable (args arities toward by rank lefts rights : List ℕ) (inb derived : List Bool) (count n : ℕ) (Concluded : Pair → Type 0) (ts : List Term) (ls : List Literal) (table : List Term) (G : Graph) : Type 0 where
+  pub drawn : Drawn args arities toward by rank lefts rights inb derived count ts ls table G
+  pub terms : length table ≡ n
+  pub connected : (p : Pair) → PairWithin n p → Concluded p → T (joined G (p .left) (p .right))
+
+-- they hold some such graph
+abbrev pub ReadableSome : List ℕ → List ℕ → List ℕ → List ℕ → List ℕ → List ℕ → List ℕ → List Bool → List Bool → ℕ → ℕ → (Pair → Type 0) → Type 0
+ReadableSome args arities toward by rank lefts rights inb derived count n Concluded =
+    (ts : List Term) × (ls : List Literal) × (table : List Term) × (G : Graph) × Readable args arities toward by rank lefts rights inb derived count n Concluded ts ls table G
+
+-- the clauses of some pairs are written, at most 261122 records for each of `most` pairs, and no premise is left marked
+pub record ClausesPut (args arities toward by rank lefts rights : List ℕ) (inb derived : List Bool) (count n : ℕ) (Concluded : Pair → Type 0) (ps : List Pair) (most at : ℕ) (out : List ℕ) (r : ℕ) (found′ : List Bool) (out′ : List ℕ) : Type 0 where
+  pub few : r ≤ at + 261122 * most
+  pub same : length out′ ≡ length out
+  pub sized : length found′ ≡ 261121
+  pub clear : Clear found′
+  pub written : (ts : List Term) (ls : List Literal) (table : List Term) (G : Graph) → Readable args arities toward by rank lefts rights inb derived count n Concluded ts ls table G → RecordsPut (flatMap (clauseOut n table G) ps) at out r out′
+
+-- the first stop in B, or the end of the trail where none before it is: a colour of 2 or more says that B is among a vertex's colours
+pub record FirstB (colours stops : List ℕ) (hops r : ℕ) : Type 0 where
+  pub within : r ≤ hops
+  pub outside : (k : ℕ) → k < r → getD colours (getD stops k 0) 0 < 2
+  pub found : r < hops → 2 ≤ getD colours (getD stops r 0) 0
+
+-- the last stop in B from place lo on, or lo itself
+pub record LastB (colours stops : List ℕ) (lo hops r : ℕ) : Type 0 where
+  pub after : lo ≤ r
+  pub within : r ≤ hops
+  pub outside : (k : ℕ) → r < k → k ≤ hops → getD colours (getD stops k 0) 0 < 2
+  pub found : lo < r → 2 ≤ getD colours (getD stops r 0) 0
+
+-- the hops are hops of the graph
+abbrev pub Over : Graph → Path → Type 0
+Over G π = (h : Hop) → List·Memᴰ h π → HopOf h G
+
+-- the pairs that the clauses of a disequality conclude are marked, by its outer stretches before and after the middle one
+pub record Concluding (args arities toward by rank lefts rights : List ℕ) (inb derived : List Bool) (count : ℕ) (stops edges : List ℕ) (lo hi hops : ℕ) (pairs′ rows′ : List Bool) : Type 0 where
+  pub square : Square pairs′ rows′
+  pub cover : Covered pairs′ rows′
+  pub marks : (ts : List Term) (ls : List Literal) (table : List Term) (G : Graph) → Drawn args arities toward by rank lefts rights inb derived count ts ls table G → (before middle after : Path) → Over G before → Over G middle → Over G after → Trailed inb stops edges lo 0 before → Trailed inb stops edges hi lo middle → Trailed inb stops edges hops hi after → (p : Pair) → PairWithin 511 p → PairMarked pairs′ p ↔ (Reached table false p true middle ⊎ (Reached table false p false before ⊎ Reached table false p false after))
+
+-- "not [middle]", off the trail
+unfoldable pub notAt : List ℕ → ℕ → ℕ → Conclusion
+notAt stops lo hi = cond (ltb lo hi) (differs (between (getD stops lo 0) (getD stops hi 0))) falsum
+
+-- the last clause is written: the premises of the outer stretches, and "not [middle]"
+pub record LastPut (args arities toward by rank lefts rights : List ℕ) (inb derived : List Bool) (count n : ℕ) (stops edges : List ℕ) (lo hi hops at : ℕ) (out : List ℕ) (r : ℕ) (out′ : List ℕ) : Type 0 where
+  pub written : (ts : List Term) (ls : List Literal) (table : List Term) (G : Graph) → Drawn args arities toward by rank lefts rights inb derived count ts ls table G → (before after : Path) → Over G before → Over G after → Trailed inb stops edges lo 0 before → Trailed inb stops edges hops hi after → (qs : List Pair) → ((p : Pair) → List·Memᴰ p qs ↔ (Premise table p before ⊎ Premise table p after)) → RecordsPut (recordsOf (record { premises = ascending n qs; conclusion = notAt stops lo hi })) at out r out′
+  pub same : length out′ ≡ length out
+
+-- what is asked of the writer of a summary: the arrays hold a graph over n terms that joins s and t, and the colours of 2 and more are those with B
+pub record Asking (args arities toward by rank lefts rights : List ℕ) (inb derived : List Bool) (count n : ℕ) (colours : List ℕ) (s t : ℕ) (ts : List Term) (ls : List Literal) (table : List Term) (G : Graph) : Type 0 where
+  pub drawn : Drawn args arities toward by rank lefts rights inb derived count ts ls table G
+  pub terms : length table ≡ n
+  pub join : T (joined G s t)
+  pub left-within : s < n
+  pub right-within : t < n
+  pub coloured : (v : ℕ) → v < length table → colourable ts ls B table v ≡ leb 2 (getD colours v 0)
+
+abbrev pub AskingSome : List ℕ → List ℕ → List ℕ → List ℕ → List ℕ → List ℕ → List ℕ → List Bool → List Bool → ℕ → ℕ → List ℕ → ℕ → ℕ → Type 0
+AskingSome args arities toward by rank lefts rights inb derived count n colours s t =
+    (ts : List Term) × (ls : List Literal) × (table : List Term) × (G : Graph) × Asking args arities toward by rank lefts rights inb derived count n colours s t ts ls table G
+
+-- the side of the disequality: A where the flag is set
+abbrev pub sideOf : Bool → Side
+sideOf true = A
+sideOf false = B
+
+-- the clause records of a disequality of a side between s and t are written
+pub record Summarised (args arities toward by rank lefts rights : List ℕ) (inb derived : List Bool) (count n : ℕ) (colours : List ℕ) (s t : ℕ) (X : Side) (out : List ℕ) (r : ℕ) (out′ : List ℕ) : Type 0 where
+  pub records : (ts : List Term) (ls : List Literal) (table : List Term) (G : Graph) → Asking args arities toward by rank lefts rights inb derived count n colours s t ts ls table G → RecordsPut (clauseRecords n (readBetween ts ls table G X s t)) 0 out r out′
