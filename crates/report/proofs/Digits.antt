@@ -1,5 +1,5 @@
 -- Laws of decimal numbers.
-use mathlib.Core.Bool.{Bool, true, false, cond}
+use mathlib.Core.Bool.{cond}
 use mathlib.Core.List.{List, [], _∷_, _++_, List·Memᴰ, List·Memᴰ·append-cases, List·Memᴰ·eq-of-singleton}
 use mathlib.Core.Logic.{⊎-elim}
 use mathlib.Core.Path.{_≡_, refl, sym, ap, subst, _∙_}
@@ -42,7 +42,7 @@ value-last v [] d = refl
 value-last v (e ∷ ds) d = value-last (10 * v + (e - 48)) ds d
 
 -- the digits of a number by cases: it is below 10 and its own digit, or its last digit stands behind those of a tenth
-by-size {ℓ} : (k n : ℕ) (C : List ℕ → Type ℓ) → (n < 10 → C ((48 + n % 10) ∷ [])) → (10 ≤ n → C (digits k (n / 10) ++ ((48 + n % 10) ∷ []))) → C (digits (suc k) n)
+pub by-size {ℓ} : (k n : ℕ) (C : List ℕ → Type ℓ) → (n < 10 → C ((48 + n % 10) ∷ [])) → (10 ≤ n → C (digits k (n / 10) ++ ((48 + n % 10) ∷ []))) → C (digits (suc k) n)
 unfolding digits
 by-size k n C f g = ⊎-elim (λ h. rw (lt-ltb n 10 h) (f h)) (λ h. rw (le-ltb n 10 h) (g h)) (below-or-not n 10)
 
