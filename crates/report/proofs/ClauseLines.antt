@@ -1,18 +1,15 @@
 -- Laws of the clauses' lines: records by their place, premises one by one, and the lines that are left.
-use mathlib.Core.Bool.{Bool, true, false, cond}
 use mathlib.Core.List.{List, [], _∷_, _++_, map, flatMap, append-assoc, append-nil, map-append}
 use mathlib.Core.Path.{_≡_, refl, sym, ap, ap₂, _∙_}
 use Prim.Native.Nat.{ℕ, zero, suc, _+_, _*_, _-_, _≤_, _<_}
-use native.Mathlib.Nat.{add-zero, zero-add, add-assoc, add-suc, suc-add}
+use native.Mathlib.Nat.{add-zero, zero-add, add-assoc}
 use native.Mathlib.Numerals.{add-one}
 use native.Mathlib.Omega.{arith}
-use lib.Dec.{eqb}
-use lib.ListN.{length, getD, take, drop}
+use lib.ListN.{drop}
 use lib.Seq.{getD-take, getD-drop}
 use borrow.Author.Tests.{eq-eqb, ne-eqb}
 use Rattle.tables.specs.Words.{below, Pair}
 use Rattle.tables.specs.Bytes.{byteAt, wordAt, recordAt}
-use Rattle.clauses.specs.Clauses.{Clause}
 use Rattle.clauses.specs.ReadBack.{pairRead, conclusionRead, clausesAfter, clausesOf, clausesRead}
 use Rattle.report.specs.Page.{Page, puts}
 use Rattle.report.specs.Text.{ascii, pairText, andPair, premisesText, conclusionText, clauseLine}

@@ -4,3 +4,4 @@ pub mod Digits
 pub mod Lines
 pub mod ClauseLines
 pub mod Examples
+pub mod Room

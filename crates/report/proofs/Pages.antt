@@ -1,9 +1,9 @@
 -- Laws of the page: texts one behind the other are one text, and a text written from the start is shown.
-use mathlib.Core.Bool.{Bool, true, false, cond}
+use mathlib.Core.Bool.{cond}
 use mathlib.Core.List.{List, [], _∷_, _++_, flatMap, append-assoc, append-nil}
 use mathlib.Core.Logic.{⊎-elim}
 use mathlib.Core.Path.{_≡_, refl, sym, ap, ap₂, _∙_}
-use Prim.Native.Nat.{ℕ, zero, suc, _+_, _≤_, _<_, min}
+use Prim.Native.Nat.{ℕ, suc, _+_, _≤_, _<_}
 use native.Mathlib.Nat.{zero-min, min-zero, suc-min-suc}
 use native.Mathlib.Numerals.{add-one}
 use native.Mathlib.Omega.{arith}
@@ -48,7 +48,7 @@ pub put-outside : (out : List ℕ) (at b : ℕ) → length out ≤ at → page o
 unfolding puts
 put-outside out at b h = simp (le-ltb at (length out) h, set-out out at b h)
 
--- the front of a page that is passed stays
+-- the front of a page that is passed stays,
 behind-put : (x : ℕ) (p : Page) (b : ℕ) → put (page (x ∷ (p .bytes)) (suc (p .at))) b ≡ page (x ∷ (put p b .bytes)) (suc (put p b .at))
 behind-put x p b = ap (page (x ∷ set (p .bytes) (p .at) b)) (⊎-elim inside outside (below-or-not (p .at) (length (p .bytes))))
   where
@@ -58,6 +58,7 @@ behind-put x p b = ap (page (x ∷ set (p .bytes) (p .at) b)) (⊎-elim inside o
     outside : length (p .bytes) ≤ p .at → cond (ltb (suc (p .at)) (suc (length (p .bytes)))) (suc (p .at) + 1) (suc (p .at)) ≡ suc (cond (ltb (p .at) (length (p .bytes))) (p .at + 1) (p .at))
     outside h = simp (le-ltb (suc (p .at)) (suc (length (p .bytes))) (omega arith), le-ltb (p .at) (length (p .bytes)) h)
 
+-- whatever is written behind it
 behind : (x : ℕ) (p : Page) (text : List ℕ) → puts (page (x ∷ (p .bytes)) (suc (p .at))) text ≡ page (x ∷ (puts p text .bytes)) (suc (puts p text .at))
 unfolding puts
 behind x p [] = refl

@@ -1,11 +1,10 @@
 -- 01, "Bench cases", its last part: what `eqsplit` prints of an answer, as the list of the text's bytes. Every line ends in a newline; numbers are decimal.
-use mathlib.Core.Bool.{Bool, true, false, cond}
-use mathlib.Core.List.{List, [], _∷_, _++_, map, flatMap}
+use mathlib.Core.Bool.{cond}
+use mathlib.Core.List.{List, [], _∷_, _++_, flatMap}
 use Prim.Native.Char.{code}
 use Prim.Native.String.{String, [] as noText, _∷_ as _then_}
 use Prim.Native.Nat.{ℕ, zero, suc, _+_, _*_, _/_, _%_, min}
 use lib.Dec.{eqb, ltb}
-use lib.ListN.{length}
 use Rattle.tables.specs.Words.{below, Pair}
 use Rattle.tables.specs.Bytes.{byteAt, wordAt, countOf}
 use Rattle.clauses.specs.Clauses.{Clause, Conclusion, equals, differs, falsum}
@@ -29,10 +28,11 @@ digits (suc more) n =
 abbrev pub decimal : ℕ → List ℕ
 decimal = digits 19
 
--- "`term I class C` or `term I idle` for each": a term not in use has 65535 for its class number
+-- a class by its number; a term not in use has 65535 there
 unfoldable pub classOf : ℕ → List ℕ
 classOf class = cond (eqb class 65535) (ascii " idle\n") (ascii " class " ++ decimal class ++ ascii "\n")
 
+-- "`term I class C` or `term I idle` for each"
 unfoldable pub termLine : List ℕ → ℕ → List ℕ
 unfolding classOf
 termLine partition i = ascii "term " ++ decimal i ++ classOf (wordAt partition (2 * i))

@@ -4,7 +4,7 @@ use super::fields;
 use super::page;
 ghost use mathlib.Core.List.{flatMap};
 ghost use mathlib.Core.Path.{_≡_};
-ghost use Prim.Native.Nat.{_≤_, _<_, min};
+ghost use Prim.Native.Nat.{_≤_, _<_};
 ghost use Rattle.tables.specs.Words.{below};
 ghost use Rattle.report.specs.Page.{page as onPage, puts};
 ghost use Rattle.report.specs.Text.{argumentText, addedLine};

@@ -2,15 +2,13 @@
 
 use super::fields;
 use super::page;
-ghost use mathlib.Core.List.{map, flatMap};
+ghost use mathlib.Core.List.{flatMap};
 ghost use mathlib.Core.Path.{_≡_};
-ghost use Prim.Native.Nat.{_+_, _*_, _-_, _≤_, _<_};
-ghost use lib.ListN.{length};
-ghost use Rattle.tables.specs.Words.{below};
+ghost use Prim.Native.Nat.{_-_, _≤_, _<_};
 ghost use Rattle.tables.specs.Bytes.{countOf, recordAt};
 ghost use Rattle.clauses.specs.ReadBack.{pairRead, conclusionRead, clausesRead};
 ghost use Rattle.report.specs.Page.{page as onPage, puts};
-ghost use Rattle.report.specs.Text.{ascii, pairText, andPair, premisesText, conclusionText, clauseLine};
+ghost use Rattle.report.specs.Text.{pairText, andPair, premisesText, conclusionText, clauseLine};
 ghost use Rattle.report.specs.Records.{pairsFrom, clauseOf};
 
 // Writes the two terms of clause record j with a sign between them.

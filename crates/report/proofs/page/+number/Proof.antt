@@ -1,5 +1,5 @@
 -- `report::page::number` meets its contract. The measure is the number: without its last digit it is lower.
-use mathlib.Core.Path.{_≡_, ap, sym, _∙_}
+use mathlib.Core.Path.{ap, sym, _∙_}
 use native.Mathlib.Omega.{arith}
 use Rattle.report.specs.Page.{page, puts}
 use Rattle.report.proofs.Pages.{and-then}
