@@ -1,29 +1,28 @@
 -- What is marked after stretches are read, and the clauses written from the marks.
 use mathlib.Core.Bool.{Bool, true, false, cond}
-use mathlib.Core.List.{List, [], _∷_, _++_, map, flatMap, append-assoc, append-nil, List·Memᴰ, List·Memᴰ·head, List·Memᴰ·tail}
+use mathlib.Core.List.{List, [], _∷_, _++_, map, flatMap, append-assoc, append-nil, List·Memᴰ}
 use mathlib.Core.Logic.{_⊎_, inl, inr, ⊎-elim, _↔_}
 use mathlib.Core.Path.{_≡_, refl, sym, ap, ap₂, subst, _∙_}
 use Prim.Native.Nat.{ℕ, zero, suc, _+_, _*_, _≤_, _<_}
 use native.Mathlib.Omega.{arith}
 use borrow.Author.Tests.{lt-ltb, le-ltb}
-use lib.Dec.{T}
-use lib.ListN.{length, getD, replicate, length-append, length-replicate}
+use lib.ListN.{length, getD, replicate, length-append}
 use Rattle.tables.specs.Words.{Pair, pair, below, keep, pairsBelow}
 use Rattle.tables.specs.Terms.{Term}
 use Rattle.tables.specs.LiteralTable.{Literal}
 use Rattle.tables.proofs.Words.{passes, same-test, some-any, any-some, samePair-eq, samePair-self, pairsBelow-mem}
-use Rattle.closure.specs.Graph.{Graph, Hop, Path, joined, path}
+use Rattle.closure.specs.Graph.{Graph, Hop, Path, path}
 use Rattle.closure.specs.Walks.{HopOf}
 use Rattle.closure.proofs.Walking.Walks.{older-fewer}
 use Rattle.closure.proofs.Walking.OnePath.{path-is}
 use Rattle.closure.proofs.Walking.Parents.{path-hop}
-use Rattle.clauses.specs.Clauses.{between, Clause, Conclusion, equals, differs, falsum}
+use Rattle.clauses.specs.Clauses.{between, Conclusion, differs, falsum}
 use Rattle.clauses.specs.Premises.{premises, Premise}
 use Rattle.clauses.specs.Records.{amongPairs, ascending, clauseRecord, conclusionRecord, recordsOf}
-use Rattle.summing.specs.Marks.{Reached, PairWithin, PairMarked, Marked, Covered, Square, Owed, Trailed, Within, Wants, Wanted}
-use Rattle.summing.specs.Drawn.{Drawn, InOrder, Settled}
+use Rattle.summing.specs.Marks.{Reached, PairWithin, PairMarked, Marked, Covered, Owed, Trailed, Within, Wanted}
+use Rattle.summing.specs.Drawn.{Drawn, Settled}
 use Rattle.summing.specs.Writing.{putRecord, putRecords, marked, rowPairs, PremisesOut, AllOut}
-use Rattle.summing.specs.Written.{clauseOf, clauseOut, RecordsPut, Clear, Readable, ReadableSome, ClausesPut, Over, Concluding, notAt, LastPut}
+use Rattle.summing.specs.Written.{clauseOf, clauseOut, RecordsPut, Clear, Readable, ReadableSome, ClausesPut, Concluding, notAt, LastPut}
 use Rattle.summing.proofs.Reached.{reached-premise, premise-reached, wants-owed, owed-kept, reached-owed}
 use Rattle.clauses.proofs.OneClause.{premise-within, premisesIn-mean}
 use Rattle.clauses.proofs.Records.{record-length, conclusionRecord-kind}
@@ -98,6 +97,7 @@ module _ (args arities toward by rank lefts rights : List ℕ) (inb derived : Li
   abbrev Here : Pair → Type 0
   Here p = p ≡ pair u v
 
+  -- it can be read
   abbrev ReadableHere : List Term → List Literal → List Term → Graph → Type 0
   ReadableHere ts ls table G = Readable args arities toward by rank lefts rights inb derived count n Here ts ls table G
 
@@ -172,12 +172,14 @@ module _ (args arities toward by rank lefts rights : List ℕ) (inb derived : Li
       pub within : v ≤ n
       pub put : Put (PairMarked pairs) (keep (marked pairs) (rowPairs v u)) v at out r found out′
 
+    -- no column yet
     pub row-clauses-none : u < n → (found : List Bool) → length found ≡ 261121 → Clear found → RowClauses (u + 1) at found out
     unfolding keep
     row-clauses-none h found s c =
         record { begun = omega arith; within = omega arith; put = clauses-as (PairMarked pairs) [] (keep (marked pairs) (rowPairs (u + 1) u)) 0 (u + 1) at out at found out (ap (keep (marked pairs)) (row-empty u)) (omega arith) (clauses-none (PairMarked pairs) 0 at out found s c) }
 
     module _ (v r : ℕ) (found : List Bool) (out₁ : List ℕ) (h : v < n) (x : RowClauses v r found out₁) where
+      -- the marked pairs with one column more
       kept : keep (marked pairs) (rowPairs (v + 1) u) ≡ keep (marked pairs) (rowPairs v u) ++ keep (marked pairs) (pair u v ∷ [])
       kept = ap (keep (marked pairs)) (row-more u v (x .begun)) ∙ keep-append (marked pairs) (rowPairs v u) (pair u v ∷ [])
 
@@ -191,6 +193,7 @@ module _ (args arities toward by rank lefts rights : List ℕ) (inb derived : Li
       row-clauses-take r′ found′ out₂ e y =
           record { begun = omega (arith, x .begun); within = omega arith; put = clauses-as (PairMarked pairs) (keep (marked pairs) (rowPairs v u) ++ (pair u v ∷ [])) (keep (marked pairs) (rowPairs (v + 1) u)) (v + 1) (v + 1) at out r′ found′ out₂ (kept ∙ ap (λ (l : List Pair). keep (marked pairs) (rowPairs v u) ++ l) (keep-one (marked pairs) (pair u v) e)) (omega arith) (clauses-append (PairMarked pairs) (λ p. p ≡ pair u v) (keep (marked pairs) (rowPairs v u)) (pair u v ∷ []) v 1 at out r found out₁ r′ found′ out₂ (λ p q. subst (PairMarked pairs) (sym q) (passes (marked pairs (pair u v)) e)) (x .put) y) }
 
+    -- the whole row
     pub row-clauses-all : (v r : ℕ) (found : List Bool) (out₁ : List ℕ) → n ≤ 511 → n ≤ v → RowClauses v r found out₁ → Put (PairMarked pairs) (keep (marked pairs) (rowPairs n u)) 511 at out r found out₁
     row-clauses-all v r found out₁ small h x =
         let e : n ≡ v = omega (arith, x .within) in
@@ -204,11 +207,13 @@ module _ (args arities toward by rank lefts rights : List ℕ) (inb derived : Li
       pub within : u ≤ n
       pub put : Put (PairMarked pairs) (keep (marked pairs) (flatMap (rowPairs n) (below u))) (511 * u) at out r found out′
 
+    -- no row yet
     pub rows-clauses-none : (found : List Bool) → length found ≡ 261121 → Clear found → RowsClauses 0 at found out
     unfolding keep flatMap below
     rows-clauses-none found s c = record { within = omega arith; put = clauses-none (PairMarked pairs) 0 at out found s c }
 
     module _ (u r : ℕ) (found : List Bool) (out₁ : List ℕ) (small : n ≤ 511) (h : u < n) (x : RowsClauses u r found out₁) where
+      -- the marked pairs with one row more
       rows-kept : keep (marked pairs) (flatMap (rowPairs n) (below (u + 1))) ≡ keep (marked pairs) (flatMap (rowPairs n) (below u)) ++ keep (marked pairs) (rowPairs n u)
       rows-kept = ap (keep (marked pairs)) (rows-more n u) ∙ keep-append (marked pairs) (flatMap (rowPairs n) (below u)) (rowPairs n u)
 
@@ -223,6 +228,7 @@ module _ (args arities toward by rank lefts rights : List ℕ) (inb derived : Li
           let empty = row-unmarked n u small pairs rows cover e in
           record { within = omega arith; put = clauses-as (PairMarked pairs) (keep (marked pairs) (flatMap (rowPairs n) (below u))) (keep (marked pairs) (flatMap (rowPairs n) (below (u + 1)))) (511 * u) (511 * (u + 1)) at out r found out₁ (rows-kept ∙ ap (λ (l : List Pair). keep (marked pairs) (flatMap (rowPairs n) (below u)) ++ l) empty ∙ append-nil (keep (marked pairs) (flatMap (rowPairs n) (below u)))) (omega arith) (x .put) }
 
+    -- all rows
     pub rows-clauses-all : (u r : ℕ) (found : List Bool) (out₁ : List ℕ) → n ≤ 511 → n ≤ u → RowsClauses u r found out₁ → Put (PairMarked pairs) (keep (marked pairs) (pairsBelow n)) 261121 at out r found out₁
     unfolding pairsBelow
     rows-clauses-all u r found out₁ small h x =
@@ -235,6 +241,7 @@ module _ (args arities toward by rank lefts rights : List ℕ) (inb derived : Li
         subst (RowsClauses u r′ found′) (sym o) (subst (λ (y : List Bool). RowsClauses u r′ y out₁) (sym f) (subst (λ (y : ℕ). RowsClauses u y found out₁) (sym e) x))
 
   module _ (pairs : List Bool) (u at : ℕ) (out : List ℕ) where
+    -- a row under other names
     pub row-clauses-named : (v r r′ : ℕ) (found found′ : List Bool) (out₁ out₂ : List ℕ) → found′ ≡ found → out₂ ≡ out₁ → r′ ≡ r → RowClauses pairs u at out v r found out₁ → RowClauses pairs u at out v r′ found′ out₂
     row-clauses-named v r r′ found found′ out₁ out₂ f o e x =
         subst (RowClauses pairs u at out v r′ found′) (sym o) (subst (λ (y : List Bool). RowClauses pairs u at out v r′ y out₁) (sym f) (subst (λ (y : ℕ). RowClauses pairs u at out v y found out₁) (sym e) x))
@@ -256,11 +263,13 @@ unfolding notAt conclusionRecord
 last-below stops lo hi h l =
     ap (λ (t : Bool). conclusionRecord (cond t (differs (between (getD stops lo 0) (getD stops hi 0))) falsum)) (lt-ltb lo hi h) ∙ ap (clauseRecord 3) (between-below (getD stops lo 0) (getD stops hi 0) l)
 
+-- with the second end lower
 pub last-above : (stops : List ℕ) (lo hi : ℕ) → lo < hi → getD stops hi 0 ≤ getD stops lo 0 → conclusionRecord (notAt stops lo hi) ≡ clauseRecord 3 (pair (getD stops hi 0) (getD stops lo 0))
 unfolding notAt conclusionRecord
 last-above stops lo hi h l =
     ap (λ (t : Bool). conclusionRecord (cond t (differs (between (getD stops lo 0) (getD stops hi 0))) falsum)) (lt-ltb lo hi h) ∙ ap (clauseRecord 3) (between-above (getD stops lo 0) (getD stops hi 0) l)
 
+-- and where the middle stretch is empty
 pub last-empty : (stops : List ℕ) (lo hi : ℕ) → hi ≤ lo → conclusionRecord (notAt stops lo hi) ≡ clauseRecord 4 (pair 0 0)
 unfolding notAt conclusionRecord
 last-empty stops lo hi h = ap (λ (t : Bool). conclusionRecord (cond t (differs (between (getD stops lo 0) (getD stops hi 0))) falsum)) (le-ltb lo hi h)

@@ -1,35 +1,34 @@
 -- Reading the parent paths of marked edges, from the newest to the oldest: what is owed stays the same until all of it is marked.
-use mathlib.Core.Bool.{Bool, true, false, not}
-use mathlib.Core.List.{List, [], _∷_, _++_, map, zipWith, List·Memᴰ, List·Memᴰ·head, List·Memᴰ·tail, List·Memᴰ·not-nil, List·Memᴰ·cases-cons}
+use mathlib.Core.Bool.{Bool, true, false}
+use mathlib.Core.List.{List, [], _∷_, map, zipWith, List·Memᴰ, List·Memᴰ·head, List·Memᴰ·tail, List·Memᴰ·not-nil, List·Memᴰ·cases-cons}
 use mathlib.Core.Logic.{_⊎_, inl, inr, ⊎-elim, _↔_}
 use mathlib.Core.Path.{_≡_, refl, sym, ap, ap₂, subst, _∙_}
 use Prim.Native.Nat.{ℕ, zero, suc, _+_, _-_, _*_, _≤_, _<_}
 use native.Mathlib.Nat.{not-suc-le-zero}
-use native.Mathlib.Numerals.{add-one}
 use native.Mathlib.Omega.{arith}
 use lib.Dec.{T, eqb}
-use lib.ListN.{length, getD, take, drop, length-drop, length-map}
+use lib.ListN.{length, getD, drop, length-drop}
 use lib.Seq.{getD-take, getD-drop, length-take-le}
 use Rattle.tables.specs.Words.{Pair}
 use Rattle.tables.specs.Terms.{Term, termAt}
 use Rattle.tables.specs.LiteralTable.{Literal}
-use Rattle.tables.proofs.Words.{and-left, and-right, getD-mem, below-or-is, passes, passed}
+use Rattle.tables.proofs.Words.{and-left, and-right, getD-mem, below-or-is, passes}
 use Rattle.closure.specs.declared.Edge.{Edge}
 use Rattle.closure.specs.declared.EdgeKind.{EdgeKind}
 use Rattle.closure.specs.declared.EdgeKind.the-variants.{Basic, Derived}
 use Rattle.closure.specs.declared.paths.Trail.{Trail}
-use Rattle.closure.specs.Graph.{Graph, Hop, Path, forth, back, vertices, joined, path, joinedPairwise, pathsBetween, parentsOf, parentPaths}
-use Rattle.closure.specs.Walks.{HopOf, onward, backward, earlier, Walk, stay, hop}
+use Rattle.closure.specs.Graph.{Graph, Hop, Path, forth, vertices, joined, path, joinedPairwise, pathsBetween, parentsOf, parentPaths}
+use Rattle.closure.specs.Walks.{HopOf, onward, earlier, Walk, stay, hop}
 use Rattle.closure.specs.Steps.{congruent}
 use Rattle.closure.specs.Forests.{Each}
 use Rattle.closure.specs.Rooting.{number}
 use Rattle.closure.specs.Trails.{Joining, TrailOf}
 use Rattle.closure.proofs.Walking.Walks.{hop-each, older-fewer, older-joined, path-walk}
-use Rattle.closure.proofs.Walking.Invariant.{Behind, SoundGraph}
+use Rattle.closure.proofs.Walking.Invariant.{Behind}
 use Rattle.closure.proofs.Walking.OnePath.{path-older}
 use Rattle.closure.proofs.Walking.Parents.{hop-sound, path-hop, parent-hop}
 use Rattle.closure.proofs.Walking.ParentPaths.{sound-forest}
-use Rattle.summing.specs.Marks.{isB, Reached, end-of, across, along, EdgeReached, PairWithin, PairMarked, Marked, Covered, Square, Owed, Trailed, done, step, Within, Wants, Wanted}
+use Rattle.summing.specs.Marks.{isB, Reached, end-of, across, along, EdgeReached, PairWithin, Marked, Covered, Owed, Trailed, done, step, Within, Wanted}
 use Rattle.summing.specs.Drawn.{isDerived, EdgeAt, Drawn, DrawnSome, InOrder, EdgeSettled, Settled}
 use Rattle.summing.proofs.Squares.{same-or-not}
 use Rattle.summing.proofs.Reached.{edge-parents, wants-owed, owed-kept, reached-owed}
@@ -138,6 +137,7 @@ module _ (args arities toward by rank lefts rights : List ℕ) (inb derived : Li
     pub trailed : Trailed inb stops edges hi 0 (path G u v)
     pub in-table : u < length table → (k : ℕ) → k ≤ hi → getD stops k 0 < length table
 
+  -- its trail and its range
   pub path-read : (u v : ℕ) → u < 511 → T (joined G u v) → (r : Trail) → TrailOf G u v r → PathRead u v (r .hops) (r .stops) (r .edges)
   path-read u v low j r t =
       let w = path-walk G u v j in
@@ -157,6 +157,7 @@ module _ (args arities toward by rank lefts rights : List ℕ) (inb derived : Li
   arguments-long v h =
       ap length (d .arguments v h) ∙ length-take-le (getD arities v 0) (drop (4 * v) args) (omega (arith, length-drop (4 * v) args, d .long, d .arity v h, d .small))
 
+  -- each at its place
   pub argument-at : (v : ℕ) → v < length table → (k : ℕ) → k < getD arities v 0 → getD (termAt table v .arguments) k 0 ≡ getD args (4 * v + k) 0
   argument-at v h k l =
       ap (λ (x : List ℕ). getD x k 0) (d .arguments v h) ∙ getD-take (getD arities v 0) (drop (4 * v) args) k 0 l ∙ getD-drop (4 * v) args k 0
@@ -173,6 +174,7 @@ module _ (args arities toward by rank lefts rights : List ℕ) (inb derived : Li
     pub left-low : getD lefts i 0 < length table
     pub right-low : getD rights i 0 < length table
 
+  -- each number below the count has one
   pub edge-read : (i : ℕ) → i < count → EdgeRead i
   edge-read i h =
       let n = numbered (EdgeAt lefts rights inb derived) G i (d .edges) (omega (arith, d .counted)) in
@@ -195,6 +197,7 @@ module _ (args arities toward by rank lefts rights : List ℕ) (inb derived : Li
   abbrev pub leftAt : ℕ → ℕ → ℕ
   leftAt i k = argAt args lefts i k
 
+  -- the same of the right end
   abbrev pub rightAt : ℕ → ℕ → ℕ
   rightAt i k = argAt args rights i k
 
@@ -208,6 +211,7 @@ module _ (args arities toward by rank lefts rights : List ℕ) (inb derived : Li
 
   -- a derived edge's arguments are joined pair by pair, and the paths between them are its parent paths
   module _ (i : ℕ) (h : i < count) (is : getD derived i false ≡ true) where
+    -- the edge
     edgeI : EdgeRead i
     edgeI = edge-read i h
 
@@ -215,12 +219,15 @@ module _ (args arities toward by rank lefts rights : List ℕ) (inb derived : Li
     abbrev pub hopI : Hop
     hopI = forth (edge-read i h .edge) (edge-read i h .older)
 
+    -- the arguments of its left end
     xs : List ℕ
     xs = termAt table (getD lefts i 0) .arguments
 
+    -- the arguments of its right end
     ys : List ℕ
     ys = termAt table (getD rights i 0) .arguments
 
+    -- its hop is derived
     kind-derived : hopI .kind ≡ Derived
     kind-derived = go (hopI .kind) (sym (edge-read i h .kind-is) ∙ is)
       where
@@ -228,6 +235,7 @@ module _ (args arities toward by rank lefts rights : List ℕ) (inb derived : Li
         go Basic e = let z : _≡_ {A = ℕ} 0 1 = cc in absurd (omega arith)
         go Derived e = refl
 
+    -- its arguments are joined pair by pair
     pairwise : T (joinedPairwise (hopI .older) xs ys)
     unfolding congruent xs ys
     pairwise =
@@ -237,6 +245,7 @@ module _ (args arities toward by rank lefts rights : List ℕ) (inb derived : Li
         (subst (λ (x : ℕ). T (joinedPairwise (hopI .older) (termAt table (r .edge .left) .arguments) (termAt table x .arguments))) (sym (r .right-is))
         (and-right (eqb (termAt table (r .edge .left) .symbol) (termAt table (r .edge .right) .symbol)) (joinedPairwise (hopI .older) (termAt table (r .edge .left) .arguments) (termAt table (r .edge .right) .arguments)) b))
 
+    -- its parent paths are the paths between them
     parents-are : parentPaths table hopI ≡ pathsBetween (hopI .older) xs ys
     unfolding parentPaths parentsOf xs ys
     parents-are =
@@ -244,6 +253,7 @@ module _ (args arities toward by rank lefts rights : List ℕ) (inb derived : Li
         ap (λ (k : EdgeKind). parentsOf k (pathsBetween (hopI .older) (termAt table (r .edge .left) .arguments) (termAt table (r .edge .right) .arguments))) kind-derived ∙
         ap₂ (λ (x y : ℕ). pathsBetween (hopI .older) (termAt table x .arguments) (termAt table y .arguments)) (sym (r .left-is)) (sym (r .right-is))
 
+    -- at each place of the arity
     pub paired : (k : ℕ) → k < getD arities (getD lefts i 0) 0 → Paired i k (hopI .older) hopI
     unfolding xs ys
     paired k l =
@@ -300,6 +310,7 @@ module _ (args arities toward by rank lefts rights : List ℕ) (inb derived : Li
     pub cover : Covered pairs₀ rows₀ → Covered pairs rows
     pub owed : (ts : List Term) (ls : List Literal) (table : List Term) (G : Graph) → DrawnAs ts ls table G → (p : Pair) → PairWithin 511 p → Owed table G b pairs inside under i p ↔ (Owed table G b pairs₀ inside₀ under₀ i p ⊎ ((k : ℕ) × (k < j) × Reached table b p mode (path G (argAt args lefts i k) (argAt args rights i k))))
 
+  -- no argument yet
   pub edge-none : (pairs rows inside under : List Bool) → InOrder pairs rows inside under → EdgeTo pairs rows inside under 0 pairs rows inside under
   edge-none pairs rows inside under o =
       record { in-order = o; cover = λ c. c; owed = λ ts ls table G d p w. (inl, λ x. ⊎-elim (λ y. y) (λ y. absurd (not-suc-le-zero (y .1))) x) }
@@ -362,6 +373,7 @@ module _ (args arities toward by rank lefts rights : List ℕ) (inb derived : Li
     pub right-low : getD rights i 0 < 511
     pub arity-low : getD arities (getD lefts i 0) 0 ≤ 4
 
+  -- they are, where a graph is drawn
   pub bounds : DrawnSome args arities toward by rank lefts rights inb derived count → Bounds
   bounds s =
       let d = s .4 in
@@ -402,6 +414,7 @@ reached-more (along x m e o r) = along x m e o r
 abbrev pub OwedBy : List Term → Graph → Bool → List Bool → List Bool → ℕ → Pair → Type 0
 OwedBy table G b inside under i p = (Marked inside i × EdgeReached table G b p true i) ⊎ (Marked under i × EdgeReached table G b p false i)
 
+-- what is owed below n, in two parts
 owed-split : (table : List Term) (G : Graph) (b : Bool) (pairs inside under : List Bool) (n i : ℕ) (p : Pair) → n ≡ i + 1 → Owed table G b pairs inside under n p ↔ (Owed table G b pairs inside under i p ⊎ OwedBy table G b inside under i p)
 owed-split table G b pairs inside under n i p e = (to, from)
   where
@@ -440,6 +453,7 @@ module _ (args arities toward by rank lefts rights : List ℕ) (inb derived : Li
     pub cover : Covered pairs₀ rows₀ → Covered pairs rows
     pub owed : (ts : List Term) (ls : List Literal) (table : List Term) (G : Graph) → Drawn args arities toward by rank lefts rights inb derived count ts ls table G → (p : Pair) → PairWithin 511 p → Owed table G b pairs inside under i p ↔ Owed table G b pairs₀ inside₀ under₀ count p
 
+  -- no edge yet
   pub settle-none : (pairs rows inside under : List Bool) → InOrder pairs rows inside under → SettledTo pairs rows inside under count pairs rows inside under
   settle-none pairs rows inside under o = record { within = omega arith; in-order = o; cover = λ c. c; owed = λ ts ls table G d p w. (λ x. x, λ x. x) }
 

@@ -1,9 +1,9 @@
 -- Which equalities a path's clauses conclude and which are its premises, as marks: what is reached along its hops and through their parent paths.
 use mathlib.Core.Bool.{Bool, true, false, not}
-use mathlib.Core.List.{List, [], _∷_, _++_, flatMap, append-assoc, List·Memᴰ, List·Memᴰ·head, List·Memᴰ·tail}
+use mathlib.Core.List.{List, [], _∷_, List·Memᴰ, List·Memᴰ·head}
 use mathlib.Core.Logic.{_⊎_, inl, inr, ⊎-elim, _↔_}
 use mathlib.Core.Path.{_≡_, refl, sym, ap, subst, _∙_}
-use Prim.Native.Nat.{ℕ, zero, suc, _+_, _≤_, _<_}
+use Prim.Native.Nat.{ℕ, zero, suc, _≤_, _<_}
 use native.Mathlib.Nat.{le-refl}
 use native.Mathlib.Omega.{arith}
 use lib.Dec.{T}
@@ -15,31 +15,33 @@ use Rattle.tables.specs.declared.Side.{Side}
 use Rattle.tables.specs.declared.Side.the-variants.{A, B}
 use Rattle.closure.specs.declared.Edge.{Edge}
 use Rattle.closure.specs.Graph.{Graph, Hop, Path, joined, path, parentPaths}
-use Rattle.closure.specs.Walks.{HopOf, onward, backward, earlier, Walk}
+use Rattle.closure.specs.Walks.{HopOf, onward, backward, earlier}
 use Rattle.closure.proofs.Walking.Joined.{joined-sym}
-use Rattle.closure.proofs.Walking.Walks.{older-fewer, older-joined, path-walk, walk-joined, walk-hop}
+use Rattle.closure.proofs.Walking.Walks.{older-fewer, older-joined, path-walk, walk-joined}
 use Rattle.closure.proofs.Walking.Invariant.{Forest, SoundGraph}
-use Rattle.closure.proofs.Walking.OnePath.{turned, backwards, mem-backwards, backwards-twice, path-back, path-older, path-is, one-path, Newest, newest-two}
+use Rattle.closure.proofs.Walking.OnePath.{turned, backwards, mem-backwards, path-back, path-older, path-is, one-path, Newest, newest-two}
 use Rattle.closure.proofs.Walking.Parents.{hop-sound, path-hop, parent-hop}
 use Rattle.closure.proofs.Walking.ParentPaths.{sound-forest, parent-path, parent-back}
-use Rattle.clauses.specs.Clauses.{between, Clause, Conclusion, equals}
+use Rattle.clauses.specs.Clauses.{Clause, equals}
 use Rattle.clauses.specs.Factors.{Factor, factors}
-use Rattle.clauses.specs.Premises.{endsOf, premises, pathClauses, Premise, own, parent, PathClause, inside, whole, under}
-use Rattle.summing.specs.Marks.{isB, Reached, end-of, across, along, EdgeReached, EndOf, EdgeOf, PairWithin, PairMarked, Marked, Wants, Owed}
-use Rattle.clauses.proofs.Factors.{allHops, factors-stretch, factors-whole, factor-hop, hop-factor, factor-walk}
+use Rattle.clauses.specs.Premises.{endsOf, pathClauses, Premise, own, parent, PathClause, inside, whole, under}
+use Rattle.summing.specs.Marks.{isB, Reached, end-of, across, along, EdgeReached, EndOf, EdgeOf, PairWithin, Wants, Owed}
+use Rattle.clauses.proofs.Factors.{factors-stretch, factor-hop, hop-factor}
 use Rattle.clauses.proofs.Members.{factorClause, whole-at, at-clause}
 use Rattle.clauses.proofs.Meaning.{Enough, clause-meaning, clause-listed}
 use Rattle.clauses.proofs.Truths.{between-sides, sides-between, older-sound}
 use Rattle.clauses.proofs.Order.{between-swap}
-use Rattle.clauses.proofs.Backwards.{turnedFactor, turned-factor}
+use Rattle.clauses.proofs.Backwards.{turned-factor}
 use Rattle.clauses.proofs.OneClause.{factor-is, premise-connected}
 
 -- ---- colours
 
+-- the flag of B
 pub isB-true : (X : Side) → isB X ≡ true → X ≡ B
 isB-true B e = refl
 isB-true A e = let z : _≡_ {A = ℕ} 0 1 = cc in absurd (omega arith)
 
+-- the flag of A
 pub isB-false : (X : Side) → isB X ≡ false → X ≡ A
 isB-false A e = refl
 isB-false B e = let z : _≡_ {A = ℕ} 0 1 = cc in absurd (omega arith)
@@ -100,6 +102,7 @@ module _ (ts : List Term) (ls : List Literal) (table : List Term) (p : Pair) whe
   abbrev ConcludesBetween : Graph → ℕ → ℕ → Type 0
   ConcludesBetween G x y = T (joined G x y) × Concludes (path G x y)
 
+  -- from its other end
   concludes-turn : (G : Graph) → SoundGraph ts ls table G → (x y : ℕ) → ConcludesBetween G x y → ConcludesBetween G y x
   concludes-turn G s x y r = (joined-sym G x y (r .0), reached-turn ts ls table false p G s x y (r .0) (r .1))
 

@@ -3,14 +3,13 @@ use mathlib.Core.Bool.{Bool, true, false, cond}
 use mathlib.Core.List.{List, [], _∷_, _++_, map, flatMap, append-assoc, append-nil, map-append, List·Memᴰ, List·Memᴰ·head, List·Memᴰ·tail, Memᴰ·of-map}
 use mathlib.Core.Logic.{_⊎_, inl, inr, ⊎-elim, _↔_}
 use mathlib.Core.Path.{_≡_, refl, sym, ap, ap₂, subst, _∙_}
-use Prim.Native.Nat.{ℕ, zero, suc, _+_, _*_, _/_, _%_, _≤_, _<_}
-use native.Mathlib.Nat.{mod-eq-of-lt}
+use Prim.Native.Nat.{ℕ, suc, _+_, _*_, _/_, _%_, _≤_, _<_}
 use native.Mathlib.Numerals.{add-one}
 use native.Mathlib.Omega.{arith}
 use borrow.Author.Tests.{leb-true, leb-false, le-leb, lt-leb, lt-ltb, le-ltb}
 use lib.Dec.{T, leb, ltb, ltb→lt, not-T}
 use lib.ListN.{length, getD, set, take, drop, length-append, length-drop, length-map, length-set}
-use lib.Seq.{sets, sets-eq, length-take-le, take-at, drop-append-add, drop-drop, getD-set-same, getD-set-other}
+use lib.Seq.{sets-eq, length-take-le, take-at, drop-append-add, drop-drop, getD-set-same, getD-set-other}
 use Rattle.tables.specs.Words.{Pair, pair, below, keep, pairsBelow}
 use Rattle.tables.proofs.Words.{by-test, below-mem, same-test, keep-mem, failed}
 use Rattle.clauses.specs.Records.{clauseRecord}
@@ -73,6 +72,7 @@ put-length at r out e =
     (λ q. let h = leb-true _ _ q in ap length (put-fits at r out h) ∙ simp (length-append, length-drop) (omega (arith, e, length-take-le (8 * at) out (omega arith))))
     (λ q. ap length (put-not at r out (leb-false _ _ q)))
 
+-- nor do several
 pub puts-length : (at : ℕ) (rs : List (List ℕ)) (out : List ℕ) → ((r : List ℕ) → List·Memᴰ r rs → length r ≡ 8) → length (putRecords at rs out) ≡ length out
 unfolding putRecords
 puts-length at [] out e = refl
@@ -91,6 +91,7 @@ put-nothing at (r ∷ rs) = ap (putRecords (at + 1) rs) (put-not at r [] (omega 
 -- ---- the members of a list that pass a test
 
 module _ {ℓ} {A : Type ℓ} (p : A → Bool) where
+  -- of two lists, one after the other
   pub keep-append : (xs ys : List A) → keep p (xs ++ ys) ≡ keep p xs ++ keep p ys
   unfolding keep
   keep-append [] ys = refl
@@ -341,10 +342,12 @@ module _ (n at : ℕ) (found₀ : List Bool) (out₀ : List ℕ) (small : n ≤ 
 
 -- ---- the same under other names
 
+-- a row
 pub row-named : (u n at : ℕ) (found₀ : List Bool) (out₀ : List ℕ) (v r r′ : ℕ) (found found′ : List Bool) (out out′ : List ℕ) → found′ ≡ found → out′ ≡ out → r′ ≡ r → RowTo u n at found₀ out₀ v r found out → RowTo u n at found₀ out₀ v r′ found′ out′
 row-named u n at found₀ out₀ v r r′ found found′ out out′ f o e x =
     subst (RowTo u n at found₀ out₀ v r′ found′) (sym o) (subst (λ (y : List Bool). RowTo u n at found₀ out₀ v r′ y out) (sym f) (subst (λ (y : ℕ). RowTo u n at found₀ out₀ v y found out) (sym e) x))
 
+-- all rows before one
 pub rows-named : (n at : ℕ) (found₀ : List Bool) (out₀ : List ℕ) (u r r′ : ℕ) (found found′ : List Bool) (out out′ : List ℕ) → found′ ≡ found → out′ ≡ out → r′ ≡ r → RowsTo n at found₀ out₀ u r found out → RowsTo n at found₀ out₀ u r′ found′ out′
 rows-named n at found₀ out₀ u r r′ found found′ out out′ f o e x =
     subst (RowsTo n at found₀ out₀ u r′ found′) (sym o) (subst (λ (y : List Bool). RowsTo n at found₀ out₀ u r′ y out) (sym f) (subst (λ (y : ℕ). RowsTo n at found₀ out₀ u y found out) (sym e) x))
@@ -358,6 +361,7 @@ put-behind at ws r tail w e h =
     put-fits at r (ws ++ tail) (omega (arith, length-append ws tail, w)) ∙
     ap₂ (λ (x y : List ℕ). x ++ r ++ y) (take-at ws tail (8 * at) w) (ap (λ (k : ℕ). drop k (ws ++ tail)) end ∙ drop-append-add ws tail 8)
 
+-- several records behind it
 puts-behind : (at : ℕ) (rs : List (List ℕ)) (ws tail : List ℕ) → length ws ≡ 8 * at → ((r : List ℕ) → List·Memᴰ r rs → length r ≡ 8) → 8 * length rs ≤ length tail → putRecords at rs (ws ++ tail) ≡ ws ++ (flatMap (λ r. r) rs ++ drop (8 * length rs) tail)
 unfolding putRecords flatMap
 puts-behind at [] ws tail w e h = refl

@@ -2,8 +2,8 @@
 use mathlib.Core.Bool.{Bool, true, false}
 use mathlib.Core.List.{List}
 use mathlib.Core.Logic.{_⊎_, inl, inr, ⊎-elim, _↔_}
-use mathlib.Core.Path.{_≡_, refl, sym, ap, subst, _∙_}
-use Prim.Native.Nat.{ℕ, _+_, _*_, _≤_, _<_}
+use mathlib.Core.Path.{_≡_, sym, ap, subst, _∙_}
+use Prim.Native.Nat.{ℕ, _≤_, _<_}
 use native.Mathlib.Omega.{arith}
 use lib.Dec.{T, eqb, eqb→eq, eqb-refl}
 use lib.ListN.{length, getD, set, length-set}
@@ -11,7 +11,7 @@ use lib.Seq.{getD-set-same, getD-set-other}
 use Rattle.tables.specs.Words.{Pair, pair}
 use Rattle.tables.proofs.Words.{passes, by-test}
 use Rattle.clauses.specs.Clauses.{between}
-use Rattle.summing.specs.Marks.{PairWithin, placeOf, PairMarked, Marked, Covered, Square, PairAdded}
+use Rattle.summing.specs.Marks.{PairWithin, placeOf, PairMarked, Marked, Square, PairAdded}
 use Rattle.clauses.proofs.Order.{between-cases, between-either}
 
 -- ---- marks
@@ -51,6 +51,7 @@ within-square p h = (omega (arith, h .0, h .1), h .1)
 pub between-below : (u v : ℕ) → u < v → between u v ≡ pair u v
 between-below u v h = ⊎-elim (λ c. c .1) (λ c. absurd (omega (arith, c .0))) (between-cases u v)
 
+-- and where the first is not lower
 pub between-above : (u v : ℕ) → v ≤ u → between u v ≡ pair v u
 between-above u v h = ⊎-elim (λ c. absurd (omega (arith, c .0))) (λ c. c .1) (between-cases u v)
 

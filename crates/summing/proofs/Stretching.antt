@@ -1,7 +1,7 @@
 -- The outer and the middle stretches of a trail, where the code cuts it.
 use mathlib.Core.Bool.{Bool, true, false, cond, not, _||_}
-use mathlib.Core.List.{List, [], _∷_, _++_}
-use mathlib.Core.Logic.{_⊎_, inl, inr, ⊎-elim}
+use mathlib.Core.List.{List, [], _∷_}
+use mathlib.Core.Logic.{⊎-elim}
 use mathlib.Core.Path.{_≡_, refl, sym, ap, subst, _∙_}
 use Prim.Native.Nat.{ℕ, suc, _+_, _-_, _≤_, _<_}
 use native.Mathlib.Nat.{eq-or-lt-of-le, not-suc-le-zero}
@@ -9,8 +9,8 @@ use native.Mathlib.Omega.{arith}
 use lib.Dec.{T}
 use lib.ListN.{getD}
 use Rattle.tables.specs.Words.{any}
-use Rattle.tables.proofs.Words.{below-or-is, passed, failed, or-left, or-right, fails, passes}
-use Rattle.closure.specs.Graph.{Hop, Path}
+use Rattle.tables.proofs.Words.{below-or-is, passed, failed, or-left, or-right}
+use Rattle.closure.specs.Graph.{Path}
 use Rattle.summing.specs.Marks.{Trailed, done, step}
 use Rattle.clauses.specs.Reading.{Stretches, fromFirst, stretches}
 use Rattle.summing.specs.Written.{FirstB, LastB}
@@ -104,16 +104,20 @@ pub record FirstTo (colours stops : List ℕ) (hops i : ℕ) : Type 0 where
   pub within : i ≤ hops
   pub outside : (k : ℕ) → k < i → getD colours (getD stops k 0) 0 < 2
 
+-- no stop yet
 pub first-none : (colours stops : List ℕ) (hops : ℕ) → FirstTo colours stops hops 0
 first-none colours stops hops = record { within = omega arith; outside = λ k l. absurd (not-suc-le-zero l) }
 
+-- one stop more
 pub first-more : (colours stops : List ℕ) (hops i : ℕ) → i < hops → getD colours (getD stops i 0) 0 < 2 → FirstTo colours stops hops i → FirstTo colours stops hops (i + 1)
 first-more colours stops hops i h t x =
     record { within = omega arith; outside = λ k l. ⊎-elim (λ (m : k < i). x .outside k m) (λ (e : k ≡ i). subst (λ (n : ℕ). getD colours (getD stops n 0) 0 < 2) (sym e) t) (below-or-is k i (omega (arith, l))) }
 
+-- a stop in B is the first
 pub first-found : (colours stops : List ℕ) (hops i : ℕ) → 2 ≤ getD colours (getD stops i 0) 0 → FirstTo colours stops hops i → FirstB colours stops hops i
 first-found colours stops hops i t x = record { within = x .within; outside = x .outside; found = λ l. t }
 
+-- none is found before the end
 pub first-end : (colours stops : List ℕ) (hops i : ℕ) → hops ≤ i → FirstTo colours stops hops i → FirstB colours stops hops i
 first-end colours stops hops i h x = record { within = x .within; outside = x .outside; found = λ l. absurd (omega (arith, l)) }
 
@@ -123,15 +127,19 @@ pub record LastTo (colours stops : List ℕ) (lo hops i : ℕ) : Type 0 where
   pub within : i ≤ hops
   pub outside : (k : ℕ) → i < k → k ≤ hops → getD colours (getD stops k 0) 0 < 2
 
+-- no stop yet
 pub last-none : (colours stops : List ℕ) (lo hops : ℕ) → lo ≤ hops → LastTo colours stops lo hops hops
 last-none colours stops lo hops h = record { after = h; within = omega arith; outside = λ k l m. absurd (omega (arith, l, m)) }
 
+-- one stop more, backwards
 pub last-more : (colours stops : List ℕ) (lo hops i : ℕ) → lo < i → getD colours (getD stops i 0) 0 < 2 → LastTo colours stops lo hops i → LastTo colours stops lo hops (i - 1)
 last-more colours stops lo hops i h t x =
     record { after = omega arith; within = omega (arith, x .within); outside = λ k l m. ⊎-elim (λ (e : i ≡ k). subst (λ (n : ℕ). getD colours (getD stops n 0) 0 < 2) e t) (λ (n : i < k). x .outside k n m) (eq-or-lt-of-le (omega (arith, l))) }
 
+-- a stop in B is the last
 pub last-found : (colours stops : List ℕ) (lo hops i : ℕ) → 2 ≤ getD colours (getD stops i 0) 0 → LastTo colours stops lo hops i → LastB colours stops lo hops i
 last-found colours stops lo hops i t x = record { after = x .after; within = x .within; outside = x .outside; found = λ l. t }
 
+-- none is found behind the beginning
 pub last-end : (colours stops : List ℕ) (lo hops i : ℕ) → i ≤ lo → LastTo colours stops lo hops i → LastB colours stops lo hops i
 last-end colours stops lo hops i h x = record { after = x .after; within = x .within; outside = x .outside; found = λ l. absurd (omega (arith, l)) }

@@ -3,36 +3,36 @@ use mathlib.Core.Bool.{Bool, true, false, cond, not}
 use mathlib.Core.List.{List, [], _∷_, _++_, map, flatMap, append-assoc, append-nil, List·Memᴰ, List·Memᴰ·head, List·Memᴰ·tail, List·Memᴰ·not-nil}
 use mathlib.Core.Logic.{_⊎_, inl, inr, ⊎-elim, _↔_}
 use mathlib.Core.Path.{_≡_, refl, sym, ap, ap₂, subst, _∙_}
-use Prim.Native.Nat.{ℕ, _+_, _*_, _≤_, _<_}
+use Prim.Native.Nat.{ℕ, _*_, _≤_, _<_}
 use native.Mathlib.Omega.{arith}
 use borrow.Author.Tests.{lt-ltb, le-ltb, lt-leb, le-leb}
-use lib.Dec.{T, T-not, not-T, ltb, leb}
+use lib.Dec.{T, not-T}
 use lib.ListN.{length, getD, drop, replicate}
-use Rattle.tables.specs.Words.{Pair, pair, keep, pairsBelow}
+use Rattle.tables.specs.Words.{Pair, keep, pairsBelow}
 use Rattle.tables.specs.Terms.{Term}
 use Rattle.tables.specs.LiteralTable.{Literal}
 use Rattle.tables.specs.declared.Side.{Side}
 use Rattle.tables.specs.declared.Side.the-variants.{A, B}
 use Rattle.tables.specs.Colours.{colourable}
 use Rattle.tables.proofs.Words.{keep-mem, mem-keep, pairsBelow-mem, passed, failed, passes, fails}
-use Rattle.closure.specs.Graph.{Graph, Hop, Path, joined, path}
+use Rattle.closure.specs.Graph.{Graph, Path, joined, path}
 use Rattle.closure.specs.declared.paths.Trail.{Trail}
 use Rattle.closure.specs.Trails.{Joining, TrailOf}
-use Rattle.closure.specs.Walks.{HopOf, Walk, stay, hop, IsPath}
+use Rattle.closure.specs.Walks.{Walk, hop, IsPath}
 use Rattle.closure.proofs.Walking.Walks.{path-walk, walk-joined, walk-hop}
 use Rattle.closure.proofs.Walking.Parents.{path-hop}
 use Rattle.closure.proofs.Walking.Invariant.{SoundGraph}
 use Rattle.closure.proofs.Walking.OnePath.{path-is, one-path, stretch-is}
 use Rattle.closure.proofs.Walking.ParentPaths.{sound-forest}
 use Rattle.clauses.specs.Clauses.{between, Clause, Conclusion, equals, differs, falsum}
-use Rattle.clauses.specs.Premises.{premises, pathClauses, Premise}
-use Rattle.clauses.specs.Reading.{Stretches, stretches, endOf, notMiddle, premisesIn, clausesIn, outerPremises, readA, readBetween}
-use Rattle.clauses.specs.Records.{ascending, concludes, concluding, isLast, firstAlone, inOrder, standing, recordsOf, clauseRecords}
-use Rattle.summing.specs.Marks.{Reached, end-of, across, along, PairWithin, placeOf, PairMarked, Trailed, done, step}
+use Rattle.clauses.specs.Premises.{premises, pathClauses}
+use Rattle.clauses.specs.Reading.{Stretches, stretches, endOf, notMiddle, clausesIn, outerPremises, readA, readBetween}
+use Rattle.clauses.specs.Records.{ascending, concluding, isLast, firstAlone, inOrder, standing, recordsOf, clauseRecords}
+use Rattle.summing.specs.Marks.{Reached, across, along, PairWithin, placeOf, PairMarked, Trailed, done, step}
 use Rattle.summing.specs.Drawn.{DrawnSome}
 use Rattle.summing.specs.Writing.{marked}
-use Rattle.summing.specs.Written.{clauseOf, clauseOut, RecordsPut, Readable, FirstB, LastB, Over, Concluding, notAt, LastPut, Clear, ClausesPut, Asking, AskingSome, sideOf, Summarised}
-use Rattle.clauses.proofs.Meaning.{path-enough, premise-meaning, premise-listed}
+use Rattle.summing.specs.Written.{clauseOf, clauseOut, RecordsPut, Readable, FirstB, LastB, Concluding, notAt, LastPut, Clear, ClausesPut, Asking, AskingSome, sideOf, Summarised}
+use Rattle.clauses.proofs.Meaning.{path-enough}
 use Rattle.clauses.proofs.Stretches.{Divided, stretches-divided}
 use Rattle.clauses.proofs.Interpolation.{lastClause, ReadingA, of-middle, of-outer, of-last, readA-mem, mem-readA}
 use Rattle.clauses.proofs.Order.{concludes-eq, eq-concludes, ascending-agree}
@@ -47,11 +47,13 @@ use Rattle.summing.proofs.Reached.{premise-joins, under-premise, premis
 
 -- ---- lists of lists
 
+-- a function of a function over a list
 flatMap-map {ℓ κ μ} : {X : Type ℓ} {Y : Type κ} {Z : Type μ} (f : Y → List Z) (g : X → Y) (xs : List X) → flatMap f (map g xs) ≡ flatMap (λ x. f (g x)) xs
 unfolding flatMap
 flatMap-map f g [] = refl
 flatMap-map {Z = Z} f g (x ∷ xs) = ap (λ (l : List Z). f (g x) ++ l) (flatMap-map f g xs)
 
+-- a function over a list of lists
 flatMap-twice {ℓ κ μ} : {X : Type ℓ} {Y : Type κ} {Z : Type μ} (f : Y → List Z) (g : X → List Y) (xs : List X) → flatMap f (flatMap g xs) ≡ flatMap (λ x. flatMap f (g x)) xs
 unfolding flatMap
 flatMap-twice f g [] = refl
@@ -134,15 +136,19 @@ module _ (ts : List Term) (ls : List Literal) (table : List Term) (G : Graph) (s
   lasts-B = keep-none (λ c. isLast (c .conclusion)) (clausesIn ts ls table G (path G u v)) (λ c m. let o = listed-of-path ts ls table c s (path-is G u v j) m in failed (isLast (c .conclusion)) (not-T (isLast (c .conclusion)) (not-last c (o .of) (o .concluded))))
 
   module _ (inB : ℕ → Bool) (z : Stretches) (div : Divided inB G u v (path G u v) z) where
+    -- the stretches are a path together
     whole-is : IsPath G u v (z .before ++ (z .middle ++ z .after))
     whole-is = subst (IsPath G u v) (sym (div .whole)) (path-is G u v j)
 
+    -- the stretch before is one
     before-is : IsPath G u (div .first) (z .before)
     before-is = stretch-is [] (z .before) (z .middle ++ z .after) whole-is (div .before-walk)
 
+    -- the middle one is
     middle-is : IsPath G (div .first) (div .last) (z .middle)
     middle-is = stretch-is (z .before) (z .middle) (z .after) whole-is (div .middle-walk)
 
+    -- the one after is
     after-is : IsPath G (div .last) v (z .after)
     after-is = stretch-is (z .before ++ z .middle) (z .after) [] (subst (IsPath G u v) (sym (append-assoc (z .before) (z .middle) (z .after)) ∙ ap (λ (τ : Path). (z .before ++ z .middle) ++ τ) (sym (append-nil (z .after)))) whole-is) (div .after-walk)
 
@@ -247,6 +253,7 @@ module _ (args arities toward by rank lefts rights : List ℕ) (inb derived : Li
 
   -- ---- in B
 
+  -- what is marked is what the clauses conclude
   pub marks-B : (pairs rows : List Bool) → Concluding args arities toward by rank lefts rights inb derived count stops edges 0 hops hops pairs rows → (p : Pair) → PairWithin 511 p → PairMarked pairs p ↔ ((c : Clause) × List·Memᴰ c (clausesOf B) × (c .conclusion ≡ equals p))
   marks-B pairs rows c p w =
       let m = c .marks ts ls table G (x .drawn) [] (path G s t) [] (λ h k. absurd (List·Memᴰ·not-nil k)) (λ h k. path-hop G s t k) (λ h k. absurd (List·Memᴰ·not-nil k)) (done refl) trail (done refl) p w in
@@ -267,15 +274,19 @@ module _ (args arities toward by rank lefts rights : List ℕ) (inb derived : Li
     abbrev pub cut : Stretches
     cut = stretches (colourable ts ls B table) s (path G s t)
 
+    -- they divide it
     divided : Divided (colourable ts ls B table) G s t (path G s t) cut
     divided = stretches-divided (colourable ts ls B table) G t s (path G s t) (path-walk G s t (x .join))
 
+    -- a colour below 2 is not in B
     outside : (k : ℕ) → k ≤ hops → getD colours (getD stops k 0) 0 < 2 → T (not (colourable ts ls B table (getD stops k 0)))
     outside k l h = fails (colourable ts ls B table (getD stops k 0)) (x .coloured (getD stops k 0) (stops-in k l) ∙ lt-leb 2 (getD colours (getD stops k 0) 0) h)
 
+    -- one of 2 or more is
     inside : (k : ℕ) → k ≤ hops → 2 ≤ getD colours (getD stops k 0) 0 → T (colourable ts ls B table (getD stops k 0))
     inside k l h = passes (colourable ts ls B table (getD stops k 0)) (x .coloured (getD stops k 0) (stops-in k l) ∙ le-leb 2 (getD colours (getD stops k 0) 0) h)
 
+    -- a trail with a hop begins at its first side
     start-at : (π : Path) → Trailed inb stops edges hops 0 π → Walk G s t π → (π ≡ []) ⊎ (s ≡ getD stops 0 0)
     start-at π (done e) w = inl refl
     start-at π (step a b c d y) (hop k q w) = inr (q ∙ sym a)
@@ -306,6 +317,7 @@ module _ (args arities toward by rank lefts rights : List ℕ) (inb derived : Li
     abbrev pub lastHere : Clause
     lastHere = record { premises = ascending n (outerPremises ts ls table G (stretches (colourable ts ls B table) s (path G s t))); conclusion = notAt stops lo hi }
 
+    -- what is marked is what the clauses conclude
     pub marks-A : (pairs rows : List Bool) → Concluding args arities toward by rank lefts rights inb derived count stops edges lo hi hops pairs rows → (p : Pair) → PairWithin 511 p → PairMarked pairs p ↔ ((c : Clause) × List·Memᴰ c (clausesOf A) × (c .conclusion ≡ equals p))
     unfolding readBetween
     marks-A pairs rows c p w =
@@ -336,9 +348,11 @@ pub new-clear : Clear (replicate 261121 false)
 new-clear p w m = none-marked 261121 (placeOf p) m
 
 module _ (args arities toward by rank lefts rights : List ℕ) (inb derived : List Bool) (count n : ℕ) (colours : List ℕ) (s t : ℕ) (small : n ≤ 511) where
+  -- what is asked, of a graph
   abbrev AskingHere : List Term → List Literal → List Term → Graph → Type 0
   AskingHere ts ls table G = Asking args arities toward by rank lefts rights inb derived count n colours s t ts ls table G
 
+  -- what is asked, of some graph
   abbrev SomeAsking : Type 0
   SomeAsking = AskingSome args arities toward by rank lefts rights inb derived count n colours s t
 
@@ -353,10 +367,12 @@ module _ (args arities toward by rank lefts rights : List ℕ) (inb derived : Li
   asked-drawn a = (a .0, a .1, a .2, a .3, a .4 .drawn)
 
   module _ (r : Trail) (given : (G : Graph) → Joining toward by rank s t G → TrailOf G s t r) where
+    -- the trail between the sides
     pub sides-read : (ts : List Term) (ls : List Literal) (table : List Term) (G : Graph) (x : AskingHere ts ls table G) → PathRead args arities toward by rank lefts rights inb derived count ts ls table G (x .drawn) s t (r .hops) (r .stops) (r .edges)
     sides-read ts ls table G x =
         path-read args arities toward by rank lefts rights inb derived count ts ls table G (x .drawn) s t (omega (arith, x .left-within)) (x .join) r (given G (joins args arities toward by rank lefts rights inb derived count ts ls table G (x .drawn) (x .join)))
 
+    -- its stops are terms of the table
     pub sides-in : (ts : List Term) (ls : List Literal) (table : List Term) (G : Graph) → AskingHere ts ls table G → (k : ℕ) → k ≤ r .hops → getD (r .stops) k 0 < length table
     sides-in ts ls table G x = sides-read ts ls table G x .in-table (omega (arith, x .left-within, x .terms))
 
@@ -380,6 +396,7 @@ module _ (args arities toward by rank lefts rights : List ℕ) (inb derived : Li
           let trail = sides-read ts ls table G x .trailed in
           marked-readable args arities toward by rank lefts rights inb derived count n colours s t ts ls table G x (r .stops) (r .edges) (r .hops) trail A pairs small (marks-A args arities toward by rank lefts rights inb derived count n colours s t ts ls table G x (r .stops) (r .edges) (r .hops) trail lo hi (sides-in ts ls table G x) first last pairs rows c)
 
+      -- the records in A
       pub summary-A : (pairs rows : List Bool) → Concluding args arities toward by rank lefts rights inb derived count (r .stops) (r .edges) lo hi (r .hops) pairs rows → (out out₁ out₂ : List ℕ) (k k′ : ℕ) (found : List Bool) → ClausesPut args arities toward by rank lefts rights inb derived count n (PairMarked pairs) (keep (marked pairs) (pairsBelow n)) 261121 0 out k found out₁ → LastPut args arities toward by rank lefts rights inb derived count n (r .stops) (r .edges) lo hi (r .hops) k out₁ k′ out₂ → Summarised args arities toward by rank lefts rights inb derived count n colours s t A out k′ out₂
       summary-A pairs rows c out out₁ out₂ k k′ found y z = record {
         records = λ ts ls table G x.

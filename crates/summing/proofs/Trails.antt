@@ -19,7 +19,7 @@ use Rattle.clauses.specs.Clauses.{between}
 use Rattle.clauses.specs.Factors.{Factor, alone, longer, inFront, factors}
 use Rattle.clauses.specs.Premises.{endsOf}
 use Rattle.clauses.specs.Reading.{endOf}
-use Rattle.summing.specs.Marks.{isB, EndOf, EdgeOf, Trailed, done, step, StretchEnd}
+use Rattle.summing.specs.Marks.{isB, EndOf, Trailed, done, step, StretchEnd}
 use Rattle.clauses.proofs.Factors.{Alternate, last-one, other-next, factors-alternate, stretchOf, factors-front}
 
 -- the colour of the edge at a place of the trail
@@ -55,21 +55,25 @@ same-all inb edges lo hi i s h = record { begins = s .begun; inside = s .within;
 
 -- ---- tests of two flags
 
+-- a test that two flags differ
 pub flags-differ : (x y : Bool) → not (Bool·beq x y) ≡ true → x ≡ y → ⊥
 flags-differ true true t e = let z : _≡_ {A = ℕ} 0 1 = cc in omega arith
 flags-differ true false t e = let z : _≡_ {A = ℕ} 0 1 = cc in omega arith
 flags-differ false true t e = let z : _≡_ {A = ℕ} 0 1 = cc in omega arith
 flags-differ false false t e = let z : _≡_ {A = ℕ} 0 1 = cc in omega arith
 
+-- a test that they agree
 pub flags-agree : (x y : Bool) → Bool·beq x y ≡ true → x ≡ y
 flags-agree true true t = refl
 flags-agree true false t = cc
 flags-agree false true t = cc
 flags-agree false false t = refl
 
+-- a test that they agree, failed
 pub flags-not : (x y : Bool) → Bool·beq x y ≡ false → x ≡ y → ⊥
 flags-not x y t = flags-differ x y (ap not t)
 
+-- a test that they differ, failed
 pub flags-same : (x y : Bool) → not (Bool·beq x y) ≡ false → x ≡ y
 flags-same x y t = flags-agree x y (not-false (Bool·beq x y) t)
 
@@ -157,6 +161,7 @@ module _ (inb : List Bool) (stops edges : List ℕ) (hi : ℕ) where
     pub behind : Trailed inb stops edges hi r rest
     pub ends : (b : Bool) (p : Pair) → EndOf b π p ↔ (((colourAt inb edges lo ≡ b) × (p ≡ between (getD stops lo 0) (getD stops r 0))) ⊎ EndOf b rest p)
 
+  -- each trail begins so
   pub first-factor : {lo : ℕ} {π : Path} (r : ℕ) → StretchEnd inb edges lo hi r → Trailed inb stops edges hi lo π → FirstFactor lo r π
   first-factor {lo} r s (done e) = absurd (omega (arith, e, s .begins, s .inside))
   first-factor {lo} {π} r s (step {h = h} {π = σ} x y z w t) =

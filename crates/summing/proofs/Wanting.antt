@@ -1,6 +1,6 @@
 -- What the turns along a stretch keep: what was marked and what the stretch asks for is what is marked and what the rest of it asks for.
 use mathlib.Core.Bool.{Bool, true, false, not}
-use mathlib.Core.List.{List, [], _∷_, List·Memᴰ, List·Memᴰ·head, List·Memᴰ·tail, List·Memᴰ·not-nil, List·Memᴰ·cases-cons}
+use mathlib.Core.List.{List, _∷_, List·Memᴰ, List·Memᴰ·head, List·Memᴰ·tail, List·Memᴰ·not-nil, List·Memᴰ·cases-cons}
 use mathlib.Core.Logic.{_⊎_, inl, inr, ⊎-elim, _↔_}
 use mathlib.Core.Path.{_≡_, refl, sym, ap, subst, _∙_}
 use Prim.Native.Nat.{ℕ, suc, _+_, _≤_, _<_}
@@ -12,9 +12,9 @@ use Rattle.tables.specs.Words.{Pair}
 use Rattle.closure.specs.Graph.{Hop, Path}
 use Rattle.clauses.specs.Clauses.{between}
 use Rattle.clauses.specs.Factors.{factors}
-use Rattle.summing.specs.Marks.{isB, EndOf, EdgeOf, PairWithin, PairMarked, Marked, Trailed, done, step, StretchEnd, Covered, Square, PairAdded, FactorsAdded, EdgesAdded, Wants, Wanted}
+use Rattle.summing.specs.Marks.{isB, EndOf, EdgeOf, PairWithin, PairMarked, Marked, Trailed, done, step, StretchEnd, Covered, Square, PairAdded, FactorsAdded, EdgesAdded, Wanted}
 use Rattle.summing.proofs.Squares.{marked-more}
-use Rattle.summing.proofs.Trails.{colourAt, flags-differ, trailed-forward, FirstFactor, first-factor}
+use Rattle.summing.proofs.Trails.{colourAt, flags-differ, trailed-forward, first-factor}
 
 -- one hop of a trail read
 abbrev Next : List Bool → List ℕ → List ℕ → ℕ → ℕ → Path → Type 0
@@ -82,6 +82,7 @@ module _ (inb : List Bool) (stops edges : List ℕ) (lo hi : ℕ) (b : Bool) whe
     pub sized : length marks ≡ 510
     pub reads : (π : Path) → Trailed inb stops edges hi lo π → (ρ : Path) × Trailed inb stops edges hi i ρ × ((k : ℕ) → (Marked marks₀ k ⊎ EdgeOf b π k) ↔ (Marked marks k ⊎ EdgeOf b ρ k))
 
+  -- no edge yet
   pub edges-none : (marks : List Bool) → lo ≤ hi → length marks ≡ 510 → EdgesUpTo marks lo marks
   edges-none marks h s = record { after = omega arith; within = h; sized = s; reads = λ π t. (π, t, λ k. (λ x. x, λ x. x)) }
 
@@ -138,10 +139,12 @@ module _ (inb : List Bool) (stops edges : List ℕ) (lo hi : ℕ) (b mode : Bool
     pub cover : Covered pairs rows → Covered pairs′ rows′
     pub ends : (π : Path) → Trailed inb stops edges hi lo π → (p : Pair) → PairWithin 511 p → PairMarked pairs′ p ↔ (PairMarked pairs p ⊎ ((mode ≡ true) × EndOf b π p))
 
+  -- where they count, the factors are marked
   pub ends-count : (pairs rows pairs′ rows′ : List Bool) → mode ≡ true → FactorsAdded inb stops edges lo hi b pairs rows pairs′ rows′ → EndsDone pairs rows pairs′ rows′
   ends-count pairs rows pairs′ rows′ e f =
       record { square = f .square; cover = f .cover; ends = λ π t p w. let y = f .added π t p w in (λ x. ⊎-elim inl (λ z. inr (e, z)) (y .0 x), λ x. y .1 (⊎-elim inl (λ z. inr (z .1)) x)) }
 
+  -- where they do not, nothing is
   pub ends-left : (pairs rows : List Bool) → mode ≡ false → Square pairs rows → EndsDone pairs rows pairs rows
   ends-left pairs rows e s = record { square = s; cover = λ c. c; ends = λ π t p w. (inl, λ x. ⊎-elim (λ z. z) (λ z. absurd (flags-differ true false refl (sym (z .0) ∙ e))) x) }
 
@@ -154,11 +157,13 @@ module _ (inb : List Bool) (stops edges : List ℕ) (lo hi : ℕ) (b mode : Bool
     pub sized : length under′ ≡ 510
     pub followed : (π : Path) → Trailed inb stops edges hi lo π → (k : ℕ) → Marked under′ k ↔ (Marked under k ⊎ ((b ≡ false) × EdgeOf b π k))
 
+  -- where clauses are read, the A-edges are marked
   pub under-count : (under under′ : List Bool) → not b ≡ true → EdgesAdded inb stops edges lo hi false under under′ → UnderDone under under′
   under-count under under′ n f =
       let e = not-true b n in
       record { sized = f .sized; followed = λ π t k. let y = f .added π t k in (λ x. ⊎-elim inl (λ z. inr (e, subst (λ (c : Bool). EdgeOf c π k) (sym e) z)) (y .0 x), λ x. y .1 (⊎-elim inl (λ z. inr (subst (λ (c : Bool). EdgeOf c π k) e (z .1))) x)) }
 
+  -- where premises are read, nothing is
   pub under-left : (under : List Bool) → not b ≡ false → length under ≡ 510 → UnderDone under under
   under-left under n s = record { sized = s; followed = λ π t k. (inl, λ x. ⊎-elim (λ z. z) (λ z. absurd (flags-differ true false refl (sym (not-false b n) ∙ z .0))) x) }
 

@@ -6,7 +6,7 @@ use mathlib.Core.Path.{_≡_}
 use Prim.Native.Nat.{ℕ, _+_, _*_, _≤_, _<_}
 use lib.Dec.{T, ltb, leb}
 use lib.ListN.{length, getD}
-use Rattle.tables.specs.Words.{Pair, pair, keep, pairsBelow}
+use Rattle.tables.specs.Words.{Pair}
 use Rattle.tables.specs.Terms.{Term}
 use Rattle.tables.specs.LiteralTable.{Literal}
 use Rattle.tables.specs.declared.Side.{Side}
@@ -20,7 +20,7 @@ use Rattle.clauses.specs.Records.{ascending, recordsOf, clauseRecords}
 use Rattle.clauses.specs.Reading.{readBetween}
 use Rattle.summing.specs.Marks.{Reached, PairWithin, PairMarked, Covered, Square, Trailed}
 use Rattle.summing.specs.Drawn.{Drawn}
-use Rattle.summing.specs.Writing.{putRecords, marked, rowPairs}
+use Rattle.summing.specs.Writing.{putRecords}
 
 -- the clause that concludes p, its premises in ascending order
 unfoldable pub clauseOf : ℕ → List Term → Graph → Pair → Clause
@@ -101,6 +101,7 @@ pub record Asking (args arities toward by rank lefts rights : List ℕ) (inb der
   pub right-within : t < n
   pub coloured : (v : ℕ) → v < length table → colourable ts ls B table v ≡ leb 2 (getD colours v 0)
 
+-- they hold some such graph
 abbrev pub AskingSome : List ℕ → List ℕ → List ℕ → List ℕ → List ℕ → List ℕ → List ℕ → List Bool → List Bool → ℕ → ℕ → List ℕ → ℕ → ℕ → Type 0
 AskingSome args arities toward by rank lefts rights inb derived count n colours s t =
     (ts : List Term) × (ls : List Literal) × (table : List Term) × (G : Graph) × Asking args arities toward by rank lefts rights inb derived count n colours s t ts ls table G

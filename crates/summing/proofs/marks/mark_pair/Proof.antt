@@ -1,5 +1,5 @@
 -- `mark_pair` meets its contract: the place is the pair's, and the row is that of the lower vertex.
-use mathlib.Core.Path.{_≡_, sym, ap}
+use mathlib.Core.Path.{sym, ap}
 use native.Mathlib.Omega.{arith}
 use borrow.Author.Needs.{needs}
 use Rattle.tables.specs.Words.{Pair}

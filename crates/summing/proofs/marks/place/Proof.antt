@@ -1,5 +1,5 @@
 -- `place` meets its contract, by the test of its two arguments.
-use mathlib.Core.Path.{_≡_, sym, ap}
+use mathlib.Core.Path.{sym, ap}
 use borrow.Author.Needs.{needs}
 use Rattle.summing.specs.Marks.{placeOf}
 use Rattle.summing.proofs.Squares.{between-below, between-above}

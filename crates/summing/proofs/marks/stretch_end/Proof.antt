@@ -1,14 +1,10 @@
 -- `stretch_end` meets its contract: the edges passed have the colour of the first.
-use mathlib.Core.Bool.{false}
-use mathlib.Core.Path.{_≡_, refl, ap}
-use Prim.Native.Nat.{ℕ, _≤_, _<_, _-_}
+use mathlib.Core.Path.{_≡_, refl}
+use Prim.Native.Nat.{_-_}
 use native.Mathlib.Omega.{arith}
-use lib.ListN.{getD}
 use Rattle.summing.proofs.Trails.{colourAt, SameTo, same-first, same-more, same-other, same-all, flags-differ, flags-same}
 use Rattle.summing.proofs.marks.stretch_end.Statement.{statement}
 use Rattle.summing.proofs.marks.stretch_end.Tie as tie
-use Rattle.summing.proofs.marks.stretch_end.Reads as reads
-use Rattle.summing.proofs.marks.stretch_end.Lts as lts
 
 abbrev Inv-loop : tie.InvT-loop
 Inv-loop inb stops edges lo hi first b i₀ i = (b ≡ colourAt inb edges lo) × SameTo inb edges lo hi i

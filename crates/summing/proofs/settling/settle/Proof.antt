@@ -3,9 +3,6 @@ use native.Mathlib.Omega.{arith}
 use Rattle.summing.proofs.Owing.{SettledTo, settle-none, settle-whole, settle-under, settle-unmarked, settle-basic, settle-all}
 use Rattle.summing.proofs.settling.settle.Statement.{statement}
 use Rattle.summing.proofs.settling.settle.Tie as tie
-use Rattle.summing.proofs.settling.settle.Reads as reads
-use Rattle.summing.proofs.settling.settle.Lts as lts
-use Rattle.summing.proofs.settling.settle_edge.Reads as settle-edge-reads
 
 abbrev Inv-loop : tie.InvT-loop
 Inv-loop args arities toward by rank lefts rights inb derived count b pairs₀ rows₀ inside₀ under₀ i₀ pairs rows inside under i =

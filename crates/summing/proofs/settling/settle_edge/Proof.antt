@@ -4,10 +4,6 @@ use native.Mathlib.Omega.{arith}
 use Rattle.summing.proofs.Owing.{EdgeTo, edge-none, edge-more, edge-all, Bounds, bounds, path-asked, path-given}
 use Rattle.summing.proofs.settling.settle_edge.Statement.{statement}
 use Rattle.summing.proofs.settling.settle_edge.Tie as tie
-use Rattle.summing.proofs.settling.settle_edge.Reads as reads
-use Rattle.summing.proofs.settling.settle_edge.Lts as lts
-use Rattle.summing.proofs.marks.want.Reads as want-reads
-use Rattle.closure.proofs.paths.path.Reads as path-reads
 
 abbrev Inv-loop : tie.InvT-loop
 Inv-loop args arities toward by rank lefts rights inb derived count i b whole pairs₀ rows₀ inside₀ under₀ l r arity j₀ pairs rows inside under j =

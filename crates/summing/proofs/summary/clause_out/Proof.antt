@@ -1,6 +1,6 @@
 -- `clause_out` meets its contract: the premises of the path between u and v are marked, written and cleared; then the pair is written.
 use mathlib.Core.Bool.{false}
-use mathlib.Core.Path.{_≡_, refl, sym, _∙_}
+use mathlib.Core.Path.{refl}
 use native.Mathlib.Omega.{arith}
 use lib.ListN.{replicate, length-replicate}
 use Rattle.summing.proofs.Owing.{joins, path-read}
@@ -8,13 +8,6 @@ use Rattle.summing.proofs.ClausesOut.{none-covered, clause-put}
 use borrow.Author.Needs.{needs}
 use Rattle.summing.proofs.summary.clause_out.Statement.{statement}
 use Rattle.summing.proofs.summary.clause_out.Tie as tie
-use Rattle.summing.proofs.summary.clause_out.Reads as reads
-use Rattle.summing.proofs.summary.clause_out.Lts as lts
-use Rattle.summing.proofs.marks.want.Reads as want-reads
-use Rattle.summing.proofs.settling.settle.Reads as settle-reads
-use Rattle.summing.proofs.writing.premises_out.Reads as premises-out-reads
-use Rattle.summing.proofs.writing.put.Reads as put-reads
-use Rattle.closure.proofs.paths.path.Reads as path-reads
 
 path-requires : tie.Need-path-requires
 path-requires c κs =

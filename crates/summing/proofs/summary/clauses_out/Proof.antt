@@ -5,9 +5,6 @@ use native.Mathlib.Omega.{arith}
 use Rattle.summing.proofs.ClausesOut.{RowsClauses, rows-clauses-none, rows-clauses-skip, rows-clauses-take, rows-clauses-all, rows-clauses-named}
 use Rattle.summing.proofs.summary.clauses_out.Statement.{statement}
 use Rattle.summing.proofs.summary.clauses_out.Tie as tie
-use Rattle.summing.proofs.summary.clauses_out.Reads as reads
-use Rattle.summing.proofs.summary.clauses_out.Lts as lts
-use Rattle.summing.proofs.summary.clauses_row.Reads as clauses-row-reads
 
 abbrev Inv-loop : tie.InvT-loop
 Inv-loop args arities toward by rank lefts rights inb derived count vertices pairs rows found₀ out₀ at n₀ u₀ found out n u =

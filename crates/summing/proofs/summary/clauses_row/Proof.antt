@@ -7,9 +7,6 @@ use Rattle.tables.proofs.Words.{passes}
 use Rattle.summing.proofs.ClausesOut.{RowClauses, row-clauses-none, row-clauses-skip, row-clauses-take, row-clauses-all, row-clauses-named, readable-one}
 use Rattle.summing.proofs.summary.clauses_row.Statement.{statement}
 use Rattle.summing.proofs.summary.clauses_row.Tie as tie
-use Rattle.summing.proofs.summary.clauses_row.Reads as reads
-use Rattle.summing.proofs.summary.clauses_row.Lts as lts
-use Rattle.summing.proofs.summary.clause_out.Reads as clause-out-reads
 
 abbrev Inv-loop : tie.InvT-loop
 Inv-loop args arities toward by rank lefts rights inb derived count vertices u pairs found₀ out₀ at n₀ v₀ found out n v =
