@@ -44,12 +44,12 @@ used-fields (a ∷ b ∷ c ∷ d ∷ []) h = refl
 used-fields (a ∷ b ∷ c ∷ d ∷ e ∷ xs) h = absurd (omega arith)
 
 -- the sixteen bytes by the fields
-laid : ℕ → ℕ → ℕ → ℕ → ℕ → ℕ → List ℕ
+unfoldable pub laid : ℕ → ℕ → ℕ → ℕ → ℕ → ℕ → List ℕ
 unfolding flatMap
 laid f n a b c d = wordBytes f ++ (n ∷ 0 ∷ []) ++ flatMap wordBytes (a ∷ b ∷ c ∷ d ∷ []) ++ (0 ∷ 0 ∷ 0 ∷ 0 ∷ [])
 
 -- what is written for a term is so laid out
-termBytes-laid : (m : Term) → termBytes m ≡ laid (m .symbol) (length (m .arguments)) (argumentAt m 0) (argumentAt m 1) (argumentAt m 2) (argumentAt m 3)
+pub termBytes-laid : (m : Term) → termBytes m ≡ laid (m .symbol) (length (m .arguments)) (argumentAt m 0) (argumentAt m 1) (argumentAt m 2) (argumentAt m 3)
 unfolding termBytes laid
 termBytes-laid m = ap (λ (xs : List ℕ). wordBytes (m .symbol) ++ (length (m .arguments) ∷ 0 ∷ []) ++ flatMap wordBytes xs ++ (0 ∷ 0 ∷ 0 ∷ 0 ∷ [])) (four-fields (m .arguments))
 

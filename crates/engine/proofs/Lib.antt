@@ -6,3 +6,9 @@ pub mod Partition
 pub mod Ways
 pub mod AddedFit
 pub mod Promises
+pub mod Searches
+pub mod Writing
+pub mod AddedRecords
+pub mod Answering
+pub mod Layouts
+pub mod LastState

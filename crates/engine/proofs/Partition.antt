@@ -22,7 +22,7 @@ use Rattle.closure.proofs.Walking.Joined.{joined-self, joined-sym, joined-trans
 use Rattle.engine.specs.Buffers.{classNumber, partitionBytes, writtenOver, classAt}
 
 -- one list after the other is the same said of the list of them
-flatMap-of-map {ℓ κ} : {X : Type ℓ} {Y : Type κ} (f : X → List Y) (xs : List X) → flatMap f xs ≡ flatMap (λ r. r) (map f xs)
+pub flatMap-of-map {ℓ κ} : {X : Type ℓ} {Y : Type κ} (f : X → List Y) (xs : List X) → flatMap f xs ≡ flatMap (λ r. r) (map f xs)
 unfolding flatMap
 flatMap-of-map f [] = refl
 flatMap-of-map f (x ∷ xs) = ap (λ l. f x ++ l) (flatMap-of-map f xs)

@@ -46,7 +46,7 @@ abbrev pub clauseBytesOf : List Term → List Literal → State → ℕ → List
 clauseBytesOf ts ls st d = flatMap (λ r. r) (recordsIn ts ls st (literalAt ls d))
 
 -- eight bytes for each clause record
-clauses-length : (ts : List Term) (ls : List Literal) (st : State) (d : ℕ) → length (clauseBytesOf ts ls st d) ≡ 8 * length (recordsIn ts ls st (literalAt ls d))
+pub clauses-length : (ts : List Term) (ls : List Literal) (st : State) (d : ℕ) → length (clauseBytesOf ts ls st d) ≡ 8 * length (recordsIn ts ls st (literalAt ls d))
 unfolding recordsIn
 clauses-length ts ls st d = clauseBytes-length (length (tableOf ts st)) (summary ts ls (tableOf ts st) (st .graph) (literalAt ls d))
 
@@ -66,7 +66,7 @@ module _ (terms literals : List ℕ) (bs : Buffers) where
   judged-refused check e n = rw e (rw (refused-number check n) refl)
 
   -- a sound table goes on to the run
-  judged-ended : checked terms literals ≡ Sound → judged terms literals bs ≡ ended bs (termsOf terms) (literalsOf literals) (ownRun (termsOf terms) (literalsOf literals))
+  pub judged-ended : checked terms literals ≡ Sound → judged terms literals bs ≡ ended bs (termsOf terms) (literalsOf literals) (ownRun (termsOf terms) (literalsOf literals))
   unfolding judged afterChecks numberOf
   judged-ended e = rw e refl
 

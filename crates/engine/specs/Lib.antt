@@ -4,3 +4,4 @@ pub mod Buffers
 pub mod Call
 pub mod Refusals
 pub mod Demands
+pub mod Ending

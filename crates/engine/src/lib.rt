@@ -1,4 +1,18 @@
-// The engine of document 01: so far what it answers, as an enum; its definitions and theorems are in specs/ and proofs/, its call follows.
+// The engine of document 01: the call on two tables and three lent buffers.
+
+mod added;
+mod answers;
+mod bytes;
+mod classes;
+mod forest;
+mod summaries;
+mod verdict;
+
+use closure::run;
+use tables::Check;
+ghost use mathlib.Core.Path.{_≡_};
+ghost use Rattle.engine.specs.Answers.{numbersOf};
+ghost use Rattle.engine.specs.Call.{Returned, judged};
 
 // What comes back beside the lent buffers.
 pub enum Answer {
@@ -12,4 +26,88 @@ pub enum Answer {
         number: usize,
         place: usize,
     },
+}
+
+// Any two byte strings, judged: the answer, and every byte of the lent buffers, are those of the definition.
+pub fn split(
+    terms: &[u8],
+    literals: &[u8],
+    partition: &mut [u8],
+    added: &mut [u8],
+    clauses: &mut [u8],
+) -> Answer
+    ensures { λ r. ⌜ record { answer = r; buffers = record { partition = now (partition .exit); added = now (added .exit); clauses = now (clauses .exit) } } ≡ judged (now (terms .entry)) (now (literals .entry)) (record { partition = now (partition .entry); added = now (added .entry); clauses = now (clauses .entry) }) ⌝ }
+{
+    let t = tables::read(terms, literals);
+    let check = t.check;
+    let Check::Sound = check else {
+        return verdict::refusal(check);
+    };
+    let rows = tables::arguments::rows(terms);
+    let end = run::own_run(t, rows);
+    answers::ended(t, end, partition, added, clauses)
+}
+
+// The answer for C, which knows no enum: the verdict (0 consistent, 1 inconsistent, 2 refused), and the numbers of document 01; those of the
+// other verdicts are 0.
+#[repr(C)]
+pub struct Numbers {
+    pub verdict: usize,
+    pub number: usize,
+    pub place: usize,
+    pub disequality: usize,
+    pub added: usize,
+    pub records: usize,
+}
+
+// The numbers of an answer.
+pub fn told(answer: Answer) -> Numbers
+    ensures { λ r. ⌜ r ≡ numbersOf answer ⌝ }
+{
+    match answer {
+        Answer::Consistent => Numbers {
+            verdict: 0,
+            number: 0,
+            place: 0,
+            disequality: 0,
+            added: 0,
+            records: 0,
+        },
+        Answer::Inconsistent {
+            disequality,
+            added,
+            records,
+        } => Numbers {
+            verdict: 1,
+            number: 0,
+            place: 0,
+            disequality: disequality,
+            added: added,
+            records: records,
+        },
+        Answer::Refused { number, place } => Numbers {
+            verdict: 2,
+            number: number,
+            place: place,
+            disequality: 0,
+            added: 0,
+            records: 0,
+        },
+    }
+}
+
+// The call for C.
+#[no_mangle]
+pub extern "C" fn anahruyk_split(
+    terms: &[u8],
+    literals: &[u8],
+    partition: &mut [u8],
+    added: &mut [u8],
+    clauses: &mut [u8],
+) -> Numbers
+    ensures { λ r. ⌜ r ≡ numbersOf (judged (now (terms .entry)) (now (literals .entry)) (record { partition = now (partition .entry); added = now (added .entry); clauses = now (clauses .entry) }) .answer) ⌝ }
+    ensures { λ r. ⌜ record { partition = now (partition .exit); added = now (added .exit); clauses = now (clauses .exit) } ≡ judged (now (terms .entry)) (now (literals .entry)) (record { partition = now (partition .entry); added = now (added .entry); clauses = now (clauses .entry) }) .buffers ⌝ }
+{
+    let answer = split(terms, literals, partition, added, clauses);
+    told(answer)
 }

@@ -223,7 +223,7 @@ module _ (t : Tables) (from : ReadFrom t) where
       go (inr h) = ⊎-elim (λ k. sym (later-arity bs (from .literals) passed v u k (counted u l) (sym symbols))) (λ k. ap (λ (i : ℕ). arityField (termRecord bs i)) (sym k)) (below-or-is v u (omega arith))
 
   -- what the checks settle
-  checks : Checked given literals
+  pub checks : Checked given literals
   checks =
       record {
         lower = lower-arguments bs (from .literals) passed;

@@ -1,0 +1,141 @@
+-- The last state of the run, as the clause layer is handed it.
+use mathlib.Core.Bool.{Bool, true, false, cond}
+use mathlib.Core.List.{List, _++_}
+use mathlib.Core.Path.{_≡_, refl, sym, ap, subst, _∙_}
+use Prim.Native.Nat.{ℕ, _<_}
+use native.Mathlib.Omega.{arith}
+use lib.Dec.{T, eqb, leb}
+use lib.ListN.{length, getD, drop}
+use Rattle.tables.specs.Terms.{Term}
+use Rattle.tables.specs.LiteralTable.{Literal}
+use Rattle.tables.specs.declared.Side.the-variants.{A, B}
+use Rattle.tables.specs.declared.Tables.{Tables}
+use Rattle.closure.specs.Graph.{Graph, joined}
+use Rattle.closure.specs.Steps.{tableOf}
+use Rattle.closure.specs.Forests.{Each}
+use Rattle.closure.specs.Opening.{ReadFrom}
+use Rattle.closure.specs.Layout.{edgesOf}
+use Rattle.closure.specs.Rooting.{RootedBy}
+use Rattle.closure.specs.Stepping.{OnRun}
+use Rattle.closure.specs.declared.state.State.{State as Arrays}
+use Rattle.closure.proofs.InArrays.Beginning.{terms-are}
+use Rattle.closure.proofs.InArrays.BasicSteps.{length-literals, left-is, right-is, side-is, left-within, right-within}
+use Rattle.closure.proofs.InArrays.DerivedSteps.{two-test}
+use Rattle.closure.proofs.InArrays.OnRuns.{on-run-sound, arity-small, can-root}
+use Rattle.closure.proofs.Running.OwnRun.{own-run}
+use Rattle.closure.proofs.InArrays.OwnTurns.{checks}
+use Rattle.closure.proofs.InArrays.Showing.{shown-arity, shown-colour}
+use Rattle.summing.specs.Drawn.{EdgeAt, Drawn}
+use Rattle.clauses.specs.Clauses.{Clause}
+use Rattle.clauses.specs.Reading.{literalAt, summary, readBetween}
+use Rattle.clauses.specs.Records.{clauseRecords}
+use Rattle.summing.specs.Written.{Asking, RecordsPut, sideOf}
+use Rattle.clauses.proofs.Records.{clauseBytes, clauseBytes-length}
+use Rattle.summing.proofs.Summing.{records-written}
+use Rattle.engine.specs.declared.forest.Columns.{Columns}
+use Rattle.engine.specs.Buffers.{writtenOver}
+use Rattle.engine.specs.Call.{recordsIn}
+use Rattle.engine.specs.Ending.{Ends, Decides, termsIn, literalsIn, recordsFor, Written, FlatRows}
+use Rattle.engine.proofs.Critical.{critical-found, critical-first}
+use Rattle.engine.proofs.AddedRecords.{all-terms}
+use Rattle.engine.proofs.Layouts.{arguments-flat}
+
+-- the arrays show a state of a run
+abbrev pub on-run : {t : Tables} {s : Arrays} → Ends t s → OnRun s
+on-run {t} w =
+    record {
+      ts = termsIn (w .from);
+      ls = literalsIn (w .from);
+      reached = w .state;
+      checked = checks t (w .from);
+      shows = w .shows;
+      steps = own-run (termsIn (w .from)) (literalsIn (w .from)) (checks t (w .from) .lower) (checks t (w .from) .sides) (w .state) (w .last) .0;
+      run = own-run (termsIn (w .from)) (literalsIn (w .from)) (checks t (w .from) .lower) (checks t (w .from) .sides) (w .state) (w .last) .1;
+    }
+
+-- the arrays that are laid out of a state hold its graph and its terms
+pub drawn-of : {t : Tables} {s : Arrays} (w : Ends t s) (args toward by rank : List ℕ) (c : Columns) → FlatRows (s .rows) args → RootedBy (edgesOf (s .graph)) toward by rank → Each (EdgeAt (c .lefts) (c .rights) (c .inb) (c .derived)) (edgesOf (s .graph)) → Drawn args (s .arities) toward by rank (c .lefts) (c .rights) (c .inb) (c .derived) (s .graph .count) (termsIn (w .from)) (literalsIn (w .from)) (tableOf (termsIn (w .from)) (w .state)) (w .state .graph)
+drawn-of {t} {s} w args toward by rank c flat rooted laid =
+    let ts = termsIn (w .from) in
+    let ls = literalsIn (w .from) in
+    record {
+      sound = on-run-sound (on-run w) .edges;
+      lower = on-run-sound (on-run w) .lower;
+      small = w .shows .within;
+      counted = sym (w .shows .count);
+      few = can-root (on-run w) .0;
+      long = flat .long;
+      arity = λ v l. omega (arith, shown-arity ts ls (w .state) s (w .shows) v l, arity-small (on-run w) v l);
+      arguments = λ v l. arguments-flat ts ls (w .state) s (w .shows) args flat v l (arity-small (on-run w) v l);
+      rooted = subst (λ (G : Graph). RootedBy G toward by rank) (w .shows .edges) rooted;
+      edges = subst (Each (EdgeAt (c .lefts) (c .rights) (c .inb) (c .derived))) (w .shows .edges) laid;
+    }
+
+-- records that are put from the start of a buffer are written over it
+written-over : (n : ℕ) (cs : List Clause) (out : List ℕ) (r : ℕ) (out′ : List ℕ) → RecordsPut (clauseRecords n cs) 0 out r out′ → Written (clauseRecords n cs) out r out′
+unfolding writtenOver
+written-over n cs out r out′ put =
+    record {
+      counted = omega (arith, put .count);
+      bytes = λ h. records-written n cs out r out′ h put .1 ∙ ap (λ (k : ℕ). clauseBytes n cs ++ drop k out) (sym (clauseBytes-length n cs));
+    }
+
+-- the side by the flag
+side-of : (b : Bool) → sideOf b ≡ cond b A B
+side-of true = refl
+side-of false = refl
+
+module _ (t : Tables) (s : Arrays) (d : ℕ) (w : Decides t s d) where
+  abbrev ts : List Term
+  ts = termsIn (w .ends .from)
+
+  abbrev ls : List Literal
+  ls = literalsIn (w .ends .from)
+
+  abbrev table : List Term
+  table = tableOf ts (w .ends .state)
+
+  abbrev G : Graph
+  G = w .ends .state .graph
+
+  abbrev from : ReadFrom t
+  from = w .ends .from
+
+  -- the disequality is a record
+  pub decided-within : d < t .literals
+  decided-within = omega (arith, critical-first ls G d (w .found) .within, length-literals t from)
+
+  -- its sides are terms
+  pub sides-in : (getD (t .lefts) d 0 < s .terms) × (getD (t .rights) d 0 < s .terms)
+  sides-in = (
+    omega (arith, left-within t from d decided-within, all-terms t s (w .ends), terms-are t from),
+    omega (arith, right-within t from d decided-within, all-terms t s (w .ends), terms-are t from),
+  )
+
+  -- the clause layer is asked for its records
+  pub asking-of : (args toward by rank : List ℕ) (c : Columns) → Drawn args (s .arities) toward by rank (c .lefts) (c .rights) (c .inb) (c .derived) (s .graph .count) ts ls table G → Asking args (s .arities) toward by rank (c .lefts) (c .rights) (c .inb) (c .derived) (s .graph .count) (s .terms) (s .colours) (getD (t .lefts) d 0) (getD (t .rights) d 0) ts ls table G
+  asking-of args toward by rank c drawn =
+      record {
+        drawn = drawn;
+        terms = sym (w .ends .shows .terms);
+        join = subst (λ (u : ℕ). T (joined G u (getD (t .rights) d 0))) (sym (left-is t from d decided-within)) (subst (λ (v : ℕ). T (joined G (literalAt ls d .left) v)) (sym (right-is t from d decided-within)) (critical-found ls G d (w .found) .meets));
+        left-within = sides-in .0;
+        right-within = sides-in .1;
+        coloured = λ v l. sym (ap (leb 2) (shown-colour ts ls (w .ends .state) s (w .ends .shows) v l) ∙ two-test ts ls table v);
+      }
+
+  -- and what it reads is what the definitions read
+  records-same : clauseRecords (s .terms) (readBetween ts ls table G (sideOf (eqb (getD (t .sides) d 0) 1)) (getD (t .lefts) d 0) (getD (t .rights) d 0)) ≡ recordsFor w
+  unfolding recordsIn summary
+  records-same =
+      let side = side-of (eqb (getD (t .sides) d 0) 1) ∙ side-is t from d decided-within in
+      let left = left-is t from d decided-within in
+      let right = right-is t from d decided-within in
+      λ i. clauseRecords (w .ends .shows .terms i) (readBetween ts ls table G (side i) (left i) (right i))
+
+  -- so they are counted, and written where they have room
+  pub written-of : (out : List ℕ) (r : ℕ) (out′ : List ℕ) → RecordsPut (clauseRecords (s .terms) (readBetween ts ls table G (sideOf (eqb (getD (t .sides) d 0) 1)) (getD (t .lefts) d 0) (getD (t .rights) d 0))) 0 out r out′ → Written (recordsFor w) out r out′
+  written-of out r out′ put =
+      let n = s .terms in
+      let cs = readBetween ts ls table G (sideOf (eqb (getD (t .sides) d 0) 1)) (getD (t .lefts) d 0) (getD (t .rights) d 0) in
+      subst (λ (rs : List (List ℕ)). Written rs out r out′) records-same (written-over n cs out r out′ put)

@@ -1,0 +1,112 @@
+-- The searches of the verdict, by the arrays: what the code tests of a record or a term is what the definitions test.
+use mathlib.Core.Bool.{Bool, true, false, cond, not, _&&_}
+use mathlib.Core.List.{List, flatMap}
+use mathlib.Core.Option.{Option, some, none, Option·getD}
+use mathlib.Core.Path.{_≡_, refl, sym, ap, ap₂, _∙_}
+use Prim.Native.Nat.{ℕ, zero, suc, _≤_, _<_}
+use native.Mathlib.Omega.{arith}
+use lib.Dec.{eqb}
+use lib.ListN.{length, getD}
+use Rattle.tables.specs.Words.{below, orElse, firstBelow}
+use Rattle.tables.specs.Bytes.{wordBytes}
+use Rattle.tables.specs.TermTable.{termCount}
+use Rattle.tables.specs.Colours.{inUse}
+use Rattle.tables.specs.Read.{soundTables}
+use Rattle.tables.specs.declared.Tables.{Tables}
+use Rattle.tables.proofs.Words.{below-mem}
+use Rattle.tables.proofs.Filled.{filled-at}
+use Rattle.tables.proofs.Sound.{length-termsOf}
+use Rattle.closure.specs.Graph.{Graph, label, joined}
+use Rattle.closure.specs.declared.state.State.{State as Arrays}
+use Rattle.closure.proofs.InArrays.Beginning.{sound-tables, read-sound, terms-are, terms-fit}
+use Rattle.closure.proofs.InArrays.BasicSteps.{length-literals, left-is, right-is, kind-is, sides-small}
+use Rattle.closure.proofs.InArrays.Showing.{shown-label}
+use Rattle.clauses.specs.Reading.{contradicted, critical}
+use Rattle.engine.specs.Buffers.{classNumber, partitionBytes}
+use Rattle.engine.proofs.Writing.{flatMap-agree}
+use Rattle.engine.specs.Ending.{Ends, termsIn, literalsIn, classBy}
+
+-- two tests that agree below n have one first number there
+pub firstBelow-agree : (p q : ℕ → Bool) (n : ℕ) → ((k : ℕ) → k < n → p k ≡ q k) → firstBelow p n ≡ firstBelow q n
+unfolding firstBelow
+firstBelow-agree p q zero f = refl
+firstBelow-agree p q (suc n) f = ap₂ (λ (o : Option ℕ) (b : Bool). orElse o (cond b (some n) none)) (firstBelow-agree p q n (λ k h. f k (omega arith))) (f n (omega arith))
+
+-- the test that the code makes of a record: its kind is not 1, and its sides have one label
+abbrev pub metIn : Tables → List ℕ → ℕ → Bool
+metIn t labels i = not (eqb (getD (t .kinds) i 0) 1) && eqb (getD labels (getD (t .lefts) i 0) 0) (getD labels (getD (t .rights) i 0) 0)
+
+module _ (t : Tables) (s : Arrays) (w : Ends t s) where
+  -- the label of a term is in its place
+  label-in : (v : ℕ) → v < 511 → getD (s .labels) v 0 ≡ label (w .state .graph) v
+  label-in = shown-label (termsIn (w .from)) (literalsIn (w .from)) (w .state) s (w .shows)
+
+  -- is whether the record is contradicted
+  met-is : (i : ℕ) → i < t .literals → metIn t (s .labels) i ≡ contradicted (literalsIn (w .from)) (w .state .graph) i
+  unfolding contradicted joined
+  met-is i h =
+      let G = w .state .graph in
+      let small = sides-small t (w .from) i h in
+      ap₂ (λ (x y : Bool). x && y) (ap not (kind-is t (w .from) i h))
+      (ap₂ eqb
+      (label-in (getD (t .lefts) i 0) (omega (arith, small .0)) ∙ ap (label G) (left-is t (w .from) i h))
+      (label-in (getD (t .rights) i 0) (omega (arith, small .1)) ∙ ap (label G) (right-is t (w .from) i h)))
+
+  -- so the first record that meets the code's test is the critical one
+  pub met-first : firstBelow (metIn t (s .labels)) (t .literals) ≡ critical (literalsIn (w .from)) (w .state .graph)
+  unfolding critical
+  met-first =
+      firstBelow-agree (metIn t (s .labels)) (contradicted (literalsIn (w .from)) (w .state .graph)) (t .literals) met-is ∙
+      ap (firstBelow (contradicted (literalsIn (w .from)) (w .state .graph))) (sym (length-literals t (w .from)))
+
+-- ---- class numbers
+
+-- the test that the code makes of a term: it is in use, and has the label of t
+abbrev pub alike : List Bool → List ℕ → ℕ → ℕ → Bool
+alike used labels t u = getD used u false && eqb (getD labels u 0) (getD labels t 0)
+
+module _ (used : List Bool) (labels : List ℕ) (n t : ℕ) where
+  -- a term that is not in use
+  pub class-idle-by : getD used t false ≡ false → 65535 ≡ classBy used labels n t
+  unfolding classBy
+  class-idle-by e = sym (ap (λ (b : Bool). cond b (Option·getD (firstBelow (alike used labels t) n) 65535) 65535) e)
+
+  -- a term in use
+  pub class-used-by : getD used t false ≡ true → (o : Option ℕ) → o ≡ firstBelow (alike used labels t) n → Option·getD o 65535 ≡ classBy used labels n t
+  unfolding classBy
+  class-used-by e o q = ap (λ (x : Option ℕ). Option·getD x 65535) q ∙ sym (ap (λ (b : Bool). cond b (Option·getD (firstBelow (alike used labels t) n) 65535) 65535) e)
+
+module _ (t : Tables) (s : Arrays) (w : Ends t s) where
+  -- as many terms as there are records
+  pub count-is : t .terms ≡ length (termsIn (w .from))
+  count-is = terms-are t (w .from) ∙ sym (length-termsOf (w .from .terms))
+
+  -- the mark of a term in use is in its place
+  pub used-in : (u : ℕ) → u < t .terms → getD (t .used) u false ≡ inUse (termsIn (w .from)) (literalsIn (w .from)) u
+  unfolding soundTables
+  used-in u h =
+      let count = termCount (w .from .terms) in
+      ap (λ (x : Tables). getD (x .used) u false) (read-sound t (w .from)) ∙
+      filled-at (inUse (termsIn (w .from)) (literalsIn (w .from))) 256 false count u false
+      (omega (arith, terms-are t (w .from))) (sound-tables t (w .from) .terms-fit)
+
+  -- so the class number by the arrays is that of the definitions
+  pub class-is : (k : ℕ) → k < t .terms → classBy (t .used) (s .labels) (t .terms) k ≡ classNumber (termsIn (w .from)) (literalsIn (w .from)) (w .state .graph) k
+  unfolding classBy classNumber joined
+  class-is k h =
+      let ts = termsIn (w .from) in
+      let ls = literalsIn (w .from) in
+      let G = w .state .graph in
+      let few = terms-fit t (w .from) in
+      ap₂ (λ (b : Bool) (o : Option ℕ). cond b (Option·getD o 65535) 65535) (used-in k h)
+      (firstBelow-agree (alike (t .used) (s .labels) k) (λ u. inUse ts ls u && joined G u k) (t .terms)
+      (λ u l. ap₂ (λ (x y : Bool). x && y) (used-in u l) (ap₂ eqb (label-in t s w u (omega arith)) (label-in t s w k (omega arith)))) ∙
+      ap (firstBelow (λ u. inUse ts ls u && joined G u k)) count-is)
+
+  -- and the words of all class numbers are the bytes of the partition
+  pub classes-are : flatMap (λ k. wordBytes (classBy (t .used) (s .labels) (t .terms) k)) (below (t .terms)) ≡ partitionBytes (termsIn (w .from)) (literalsIn (w .from)) (w .state .graph)
+  unfolding partitionBytes
+  classes-are =
+      flatMap-agree (λ k. wordBytes (classBy (t .used) (s .labels) (t .terms) k)) (λ k. wordBytes (classNumber (termsIn (w .from)) (literalsIn (w .from)) (w .state .graph) k)) (below (t .terms))
+      (λ k m. ap wordBytes (class-is k (below-mem (t .terms) m))) ∙
+      ap (λ (n : ℕ). flatMap (λ k. wordBytes (classNumber (termsIn (w .from)) (literalsIn (w .from)) (w .state .graph) k)) (below n)) count-is

@@ -1,0 +1,32 @@
+-- `engine::anahruyk_split` meets its contract: the numbers of the answer that `split` gives, and the bytes that it leaves.
+use mathlib.Core.Path.{ap, _∙_}
+use borrow.Author.Needs.{needs}
+use Rattle.engine.specs.Answers.{numbersOf}
+use Rattle.engine.specs.Call.{Returned}
+use Rattle.engine.proofs.anahruyk_split.Statement.{statement}
+use Rattle.engine.proofs.anahruyk_split.Tie as tie
+
+split-requires : tie.Need-split-requires
+split-requires c κs = search needs
+
+told-requires : tie.Need-told-requires
+told-requires c κs = search needs
+
+same-length : tie.Need-same-length
+same-length c = search needs
+
+same-length-2 : tie.Need-same-length-2
+same-length-2 c = search needs
+
+same-length-3 : tie.Need-same-length-3
+same-length-3 c = search needs
+
+returns : tie.Need-returns
+returns c =
+    let s = c .before .before .before .before .before .before .before .split in
+    (c .told .ensures ∙ ap (λ (z : Returned). numbersOf (z .answer)) (s .ensures), ap (λ (z : Returned). z .buffers) (s .ensures))
+
+pub anahruyk-split-spec : {M : Type 1} → statement M
+anahruyk-split-spec =
+    tie.close
+    (tie.spec split-requires told-requires same-length same-length-2 same-length-3 returns)

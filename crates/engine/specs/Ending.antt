@@ -1,0 +1,70 @@
+-- What the verdict is read off: tables that no row of the checks refuses, and the arrays of the last state of the library's own run over them.
+use mathlib.Core.Bool.{Bool, false, cond, _&&_}
+use mathlib.Core.List.{List, [], _∷_, _++_, flatMap}
+use mathlib.Core.Option.{some, Option·getD}
+use mathlib.Core.Path.{_≡_}
+use Prim.Native.Nat.{ℕ, _*_, _/_, _%_, _≤_, _<_}
+use lib.Dec.{eqb}
+use lib.ListN.{length, getD}
+use Rattle.tables.specs.Words.{firstBelow}
+use Rattle.tables.specs.Bytes.{wordBytes}
+use Rattle.tables.specs.Terms.{Term}
+use Rattle.tables.specs.TermTable.{termsOf}
+use Rattle.tables.specs.LiteralTable.{Literal, literalsOf}
+use Rattle.tables.specs.declared.Tables.{Tables}
+use Rattle.closure.specs.Steps.{State}
+use Rattle.closure.specs.OwnRun.{ownRun}
+use Rattle.closure.specs.Shown.{Shows}
+use Rattle.closure.specs.Keys.{noRow}
+use Rattle.closure.specs.declared.Row.{Row}
+use Rattle.closure.specs.Opening.{ReadFrom}
+use Rattle.closure.specs.declared.state.State.{State as Arrays}
+use Rattle.clauses.specs.Reading.{literalAt, critical}
+use Rattle.engine.specs.Buffers.{writtenOver}
+use Rattle.engine.specs.Call.{recordsIn}
+
+-- the terms and the literals that the tables are read from
+abbrev pub termsIn : {t : Tables} → ReadFrom t → List Term
+termsIn from = termsOf (from .terms)
+
+abbrev pub literalsIn : {t : Tables} → ReadFrom t → List Literal
+literalsIn from = literalsOf (from .literals)
+
+-- the arrays show the last state of the run over the tables
+pub record Ends (t : Tables) (s : Arrays) : Type 0 where
+  pub from : ReadFrom t
+  pub state : State
+  pub last : ownRun (termsIn from) (literalsIn from) ≡ some state
+  pub shows : Shows (termsIn from) (literalsIn from) state s
+
+-- and d is the critical disequality there
+pub record Decides (t : Tables) (s : Arrays) (d : ℕ) : Type 0 where
+  pub ends : Ends t s
+  pub found : critical (literalsIn (ends .from)) (ends .state .graph) ≡ some d
+
+-- the clause records of that disequality
+abbrev pub recordsFor : {t : Tables} {s : Arrays} {d : ℕ} → Decides t s d → List (List ℕ)
+recordsFor {d = d} w = recordsIn (termsIn (w .ends .from)) (literalsIn (w .ends .from)) (w .ends .state) (literalAt (literalsIn (w .ends .from)) d)
+
+-- records are counted, and written where they have room
+pub record Written (rs : List (List ℕ)) (buffer : List ℕ) (count : ℕ) (out : List ℕ) : Type 0 where
+  pub counted : count ≡ length rs
+  pub bytes : 8 * length rs ≤ length buffer → out ≡ writtenOver (flatMap (λ r. r) rs) buffer
+
+-- a class number by the marks of the terms in use and the labels of all terms, among the first n terms
+unfoldable pub classBy : List Bool → List ℕ → ℕ → ℕ → ℕ
+classBy used labels n t =
+    let lowest = Option·getD (firstBelow (λ u. getD used u false && eqb (getD labels u 0) (getD labels t 0)) n) 65535 in
+    cond (getD used t false) lowest 65535
+
+-- "Term record, 16 bytes", by its fields
+unfoldable pub recordBytes : ℕ → ℕ → List ℕ → List ℕ
+recordBytes symbol arity row =
+    wordBytes symbol ++ (arity ∷ 0 ∷ []) ++
+    (wordBytes (getD row 0 0) ++ wordBytes (getD row 1 0) ++ wordBytes (getD row 2 0) ++ wordBytes (getD row 3 0)) ++
+    (0 ∷ 0 ∷ 0 ∷ 0 ∷ [])
+
+-- the fields of the rows stand one behind the other, four for each row
+pub record FlatRows (rows : List Row) (args : List ℕ) : Type 0 where
+  pub long : length args ≡ 2044
+  pub at : (k : ℕ) → k < 2044 → getD args k 0 ≡ getD (getD rows (k / 4) noRow .args) (k % 4) 0

@@ -1,0 +1,53 @@
+// The clause records of the critical disequality, off the run's last state.
+
+use super::forest;
+use closure::rooting;
+use closure::state::State;
+use summing::summary;
+use tables::Tables;
+ghost use Rattle.engine.specs.Ending.{Decides, recordsFor, Written};
+
+// Counts the records, and writes them where they have room: what a first call on no room counts is what a second call writes.
+pub fn clause_records(t: Tables, st: State, d: usize, out: &mut [u8]) -> usize
+    requires { ⌜ Decides t st d ⌝ }
+    ensures { λ r. ⌜ ((w : Decides t st d) → Written (recordsFor w) (now (out .entry)) r (now (out .exit))) ⌝ }
+{
+    let graph = st.graph;
+    let labels = st.labels;
+    let root = rooting::rooted(graph, &labels);
+    let toward = root.toward;
+    let by = root.by;
+    let rank = root.rank;
+    let edges = forest::laid_out(graph);
+    let lefts = edges.lefts;
+    let rights = edges.rights;
+    let inb = edges.inb;
+    let derived = edges.derived;
+    let rows = st.rows;
+    let args = forest::flat(rows);
+    let arities = st.arities;
+    let colours = st.colours;
+    let count = graph.count;
+    let vertices = st.terms as u16;
+    let left = t.lefts[d];
+    let right = t.rights[d];
+    let ina = t.sides[d] == 1;
+    summary::write(
+        &args,
+        &arities,
+        &toward,
+        &by,
+        &rank,
+        &lefts,
+        &rights,
+        &inb,
+        &derived,
+        count,
+        vertices,
+        &colours,
+        ina,
+        left,
+        right,
+        out,
+    )
+}
