@@ -1,7 +1,7 @@
 // Runs the calls of data/cases.tab, one after the other, and prints what comes back: the answer, and the bytes written. The buffers are lent
 // filled with a pattern; a buffer in which a byte should have stayed and did not is told.
 
-use engine::Answer;
+use demands::Answer;
 ghost use Prim.Native.Nat.{_<_};
 use libc::STDOUT_FILENO;
 

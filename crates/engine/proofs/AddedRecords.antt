@@ -16,10 +16,10 @@ use Rattle.closure.specs.Keys.{noRow}
 use Rattle.closure.specs.declared.Row.{Row}
 use Rattle.closure.specs.declared.state.State.{State as Arrays}
 use Rattle.closure.proofs.InArrays.Showing.{shown-symbol, shown-arity, shown-row}
-use Rattle.engine.specs.Buffers.{termBytes}
+use Rattle.demands.specs.Buffers.{termBytes}
 use Rattle.engine.specs.Ending.{Ends, termsIn, literalsIn, recordBytes}
-use Rattle.engine.proofs.AddedTerms.{argumentAt, addedBytes, laid, termBytes-laid}
-use Rattle.engine.proofs.Partition.{flatMap-of-map}
+use Rattle.demands.proofs.AddedTerms.{argumentAt, addedBytes, laid, termBytes-laid}
+use Rattle.demands.proofs.Partition.{flatMap-of-map}
 use Rattle.engine.proofs.Writing.{flatMap-agree}
 use Rattle.engine.proofs.Searches.{count-is}
 

@@ -10,13 +10,13 @@ use Rattle.tables.specs.Terms.{Term}
 use Rattle.tables.specs.LiteralTable.{Literal}
 use Rattle.tables.specs.declared.Tables.{Tables}
 use Rattle.closure.specs.declared.state.State.{State as Arrays}
-use Rattle.engine.specs.declared.Answer.the-variants.{Consistent, Inconsistent}
-use Rattle.engine.specs.Buffers.{partitionBytes, termBytes, writtenOver, tooShort}
-use Rattle.engine.specs.Call.{Buffers, Returned, refused, consistent, inconsistent}
+use Rattle.demands.specs.declared.Answer.the-variants.{Consistent, Inconsistent}
+use Rattle.demands.specs.Buffers.{partitionBytes, termBytes, writtenOver, tooShort}
+use Rattle.demands.specs.Call.{Buffers, Returned, refused, consistent, inconsistent}
 use Rattle.engine.specs.Ending.{Ends, Decides, termsIn, literalsIn, recordsFor}
-use Rattle.engine.proofs.Partition.{partition-length}
-use Rattle.engine.proofs.AddedTerms.{addedBytes, addedBytes-length}
-use Rattle.engine.proofs.Ways.{clauses-length}
+use Rattle.demands.proofs.Partition.{partition-length}
+use Rattle.demands.proofs.AddedTerms.{addedBytes, addedBytes-length}
+use Rattle.demands.proofs.Ways.{clauses-length}
 use Rattle.engine.proofs.Searches.{count-is}
 use Rattle.engine.proofs.AddedRecords.{all-terms}
 

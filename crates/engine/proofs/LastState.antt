@@ -33,10 +33,10 @@ use Rattle.summing.specs.Written.{Asking, RecordsPut, sideOf}
 use Rattle.clauses.proofs.Records.{clauseBytes, clauseBytes-length}
 use Rattle.summing.proofs.Summing.{records-written}
 use Rattle.engine.specs.declared.forest.Columns.{Columns}
-use Rattle.engine.specs.Buffers.{writtenOver}
-use Rattle.engine.specs.Call.{recordsIn}
+use Rattle.demands.specs.Buffers.{writtenOver}
+use Rattle.demands.specs.Call.{recordsIn}
 use Rattle.engine.specs.Ending.{Ends, Decides, termsIn, literalsIn, recordsFor, Written, FlatRows}
-use Rattle.engine.proofs.Critical.{critical-found, critical-first}
+use Rattle.demands.proofs.Critical.{critical-found, critical-first}
 use Rattle.engine.proofs.AddedRecords.{all-terms}
 use Rattle.engine.proofs.Layouts.{arguments-flat}
 

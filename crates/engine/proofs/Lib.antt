@@ -1,11 +1,4 @@
--- Theorems about the definitions of specs/.
-pub mod Bench
-pub mod AddedTerms
-pub mod Critical
-pub mod Partition
-pub mod Ways
-pub mod AddedFit
-pub mod Promises
+-- Laws that the code's proofs share.
 pub mod Searches
 pub mod Writing
 pub mod AddedRecords

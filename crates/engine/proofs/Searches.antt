@@ -22,7 +22,7 @@ use Rattle.closure.proofs.InArrays.Beginning.{sound-tables, read-sound, terms-a
 use Rattle.closure.proofs.InArrays.BasicSteps.{length-literals, left-is, right-is, kind-is, sides-small}
 use Rattle.closure.proofs.InArrays.Showing.{shown-label}
 use Rattle.clauses.specs.Reading.{contradicted, critical}
-use Rattle.engine.specs.Buffers.{classNumber, partitionBytes}
+use Rattle.demands.specs.Buffers.{classNumber, partitionBytes}
 use Rattle.engine.proofs.Writing.{flatMap-agree}
 use Rattle.engine.specs.Ending.{Ends, termsIn, literalsIn, classBy}
 

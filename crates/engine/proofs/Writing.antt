@@ -9,7 +9,7 @@ use lib.Seq.{paste, take-at, take-length, drop-append-add, drop-drop, length-tak
 use Rattle.tables.specs.Words.{below}
 use Rattle.tables.proofs.Words.{length-below}
 use Rattle.tables.proofs.WordBytes.{records-length}
-use Rattle.engine.specs.Buffers.{writtenOver}
+use Rattle.demands.specs.Buffers.{writtenOver}
 
 -- a whole copy at a place is written over what stood there
 pub paste-all : (d : List ℕ) (at : ℕ) (s : List ℕ) → at ≤ length d → paste d at s (length s) ≡ writtenOver (take at d ++ s) d

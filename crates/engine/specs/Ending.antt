@@ -20,8 +20,8 @@ use Rattle.closure.specs.declared.Row.{Row}
 use Rattle.closure.specs.Opening.{ReadFrom}
 use Rattle.closure.specs.declared.state.State.{State as Arrays}
 use Rattle.clauses.specs.Reading.{literalAt, critical}
-use Rattle.engine.specs.Buffers.{writtenOver}
-use Rattle.engine.specs.Call.{recordsIn}
+use Rattle.demands.specs.Buffers.{writtenOver}
+use Rattle.demands.specs.Call.{recordsIn}
 
 -- the terms and the literals that the tables are read from
 abbrev pub termsIn : {t : Tables} → ReadFrom t → List Term

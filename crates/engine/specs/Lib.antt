@@ -1,7 +1,2 @@
--- Document 01's "What comes back", as definitions over the bytes of the two tables and of the three lent buffers. The theorems are in proofs/.
-pub mod Answers
-pub mod Buffers
-pub mod Call
-pub mod Refusals
-pub mod Demands
+-- What the call's functions between layers speak of. What the call answers is defined in the crate `demands`.
 pub mod Ending

@@ -8,7 +8,7 @@ ghost use mathlib.Core.List.{map, flatMap};
 ghost use mathlib.Core.Path.{_≡_};
 ghost use Prim.Native.Nat.{_*_, _-_, _≤_};
 ghost use lib.ListN.{length};
-ghost use Rattle.engine.specs.Buffers.{termBytes, writtenOver};
+ghost use Rattle.demands.specs.Buffers.{termBytes, writtenOver};
 ghost use Rattle.engine.specs.Ending.{Ends, recordBytes};
 
 // "Term record, 16 bytes": the symbol, the arity, the arguments, and zeros.

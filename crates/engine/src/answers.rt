@@ -1,12 +1,12 @@
 // From the run's last state to the answer: the verdict, then room, then the bytes.
 
-use super::Answer;
 use super::added;
 use super::classes;
 use super::summaries;
 use super::verdict;
 use closure::state::State;
 use closure::step::Stepped;
+use demands::Answer;
 use tables::Found;
 use tables::Tables;
 ghost use mathlib.Core.List.{List, map};
@@ -18,8 +18,8 @@ ghost use Rattle.closure.specs.OwnRun.{ownRun};
 ghost use Rattle.closure.specs.Opening.{ReadFrom};
 ghost use Rattle.closure.specs.Stepping.{Ends as RunEnds};
 ghost use Rattle.clauses.specs.Reading.{critical as criticalIn};
-ghost use Rattle.engine.specs.Buffers.{partitionBytes, termBytes};
-ghost use Rattle.engine.specs.Call.{Returned, consistent as consistentBy, inconsistent as inconsistentBy, verdict as verdictBy, ended as endedBy};
+ghost use Rattle.demands.specs.Buffers.{partitionBytes, termBytes};
+ghost use Rattle.demands.specs.Call.{Returned, consistent as consistentBy, inconsistent as inconsistentBy, verdict as verdictBy, ended as endedBy};
 ghost use Rattle.engine.specs.Ending.{Ends, Decides, termsIn, literalsIn, recordsFor};
 
 // No disequality has its sides joined: the partition, where it has room.

@@ -5,7 +5,7 @@ ghost use mathlib.Core.Path.{_≡_};
 ghost use Prim.Native.Nat.{_+_, _≤_};
 ghost use lib.ListN.{length, take};
 ghost use Rattle.tables.specs.Bytes.{wordBytes};
-ghost use Rattle.engine.specs.Buffers.{writtenOver};
+ghost use Rattle.demands.specs.Buffers.{writtenOver};
 
 // "numbers little-endian": the two bytes of a number.
 pub fn word(n: u16) -> [u8; 2]

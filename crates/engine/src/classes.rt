@@ -6,7 +6,7 @@ use tables::Tables;
 ghost use mathlib.Core.Path.{_≡_};
 ghost use Prim.Native.Nat.{_*_, _≤_, _<_};
 ghost use lib.ListN.{length};
-ghost use Rattle.engine.specs.Buffers.{partitionBytes, writtenOver};
+ghost use Rattle.demands.specs.Buffers.{partitionBytes, writtenOver};
 ghost use Rattle.engine.specs.Ending.{Ends, termsIn, literalsIn, classBy};
 
 // "the lowest number of a given term in its class; a term not in use gets 65535"

@@ -9,24 +9,12 @@ mod summaries;
 mod verdict;
 
 use closure::run;
+use demands::Answer;
+use demands::Numbers;
 use tables::Check;
 ghost use mathlib.Core.Path.{_≡_};
-ghost use Rattle.engine.specs.Answers.{numbersOf};
-ghost use Rattle.engine.specs.Call.{Returned, judged};
-
-// What comes back beside the lent buffers.
-pub enum Answer {
-    Consistent,
-    Inconsistent {
-        disequality: usize,
-        added: usize,
-        records: usize,
-    },
-    Refused {
-        number: usize,
-        place: usize,
-    },
-}
+ghost use Rattle.demands.specs.Answers.{numbersOf};
+ghost use Rattle.demands.specs.Call.{Returned, judged};
 
 // Any two byte strings, judged: the answer, and every byte of the lent buffers, are those of the definition.
 pub fn split(
@@ -46,18 +34,6 @@ pub fn split(
     let rows = tables::arguments::rows(terms);
     let end = run::own_run(t, rows);
     answers::ended(t, end, partition, added, clauses)
-}
-
-// The answer for C, which knows no enum: the verdict (0 consistent, 1 inconsistent, 2 refused), and the numbers of document 01; those of the
-// other verdicts are 0.
-#[repr(C)]
-pub struct Numbers {
-    pub verdict: usize,
-    pub number: usize,
-    pub place: usize,
-    pub disequality: usize,
-    pub added: usize,
-    pub records: usize,
 }
 
 // The numbers of an answer.

@@ -12,8 +12,8 @@ use Rattle.tables.specs.Words.{below, Pair}
 use Rattle.tables.specs.Bytes.{AllBytes, byteAt, wordAt, recordAt, countOf}
 use Rattle.tables.proofs.Words.{by-test, below-or-not, getD-mem, below-mem, length-below}
 use Rattle.clauses.specs.ReadBack.{pairRead, conclusionRead, clausesAfter, clausesOf, clausesRead}
-use Rattle.engine.specs.declared.Answer.{Answer}
-use Rattle.engine.specs.declared.Answer.the-variants.{Consistent, Inconsistent, Refused}
+use Rattle.demands.specs.declared.Answer.{Answer}
+use Rattle.demands.specs.declared.Answer.the-variants.{Consistent, Inconsistent, Refused}
 use Rattle.report.specs.Page.{page, shown}
 use Rattle.report.specs.Text.{ascii, digits, decimal, classOf, termLine, argumentText, addedLine, pairText, andPair, premisesText, conclusionText, clauseLine, consistentText, headText, endText, inconsistentText, refusedText, reportOf}
 use Rattle.report.proofs.Digits.{by-size}

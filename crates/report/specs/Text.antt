@@ -9,8 +9,8 @@ use Rattle.tables.specs.Words.{below, Pair}
 use Rattle.tables.specs.Bytes.{byteAt, wordAt, countOf}
 use Rattle.clauses.specs.Clauses.{Clause, Conclusion, equals, differs, falsum}
 use Rattle.clauses.specs.ReadBack.{clausesRead}
-use Rattle.engine.specs.declared.Answer.{Answer}
-use Rattle.engine.specs.declared.Answer.the-variants.{Consistent, Inconsistent, Refused}
+use Rattle.demands.specs.declared.Answer.{Answer}
+use Rattle.demands.specs.declared.Answer.the-variants.{Consistent, Inconsistent, Refused}
 
 -- the bytes of a quoted text
 abbrev pub ascii : String → List ℕ

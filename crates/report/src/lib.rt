@@ -7,7 +7,7 @@ mod horn;
 mod page;
 mod verdicts;
 
-use engine::Answer;
+use demands::Answer;
 ghost use mathlib.Core.Path.{_≡_};
 ghost use Rattle.report.specs.Page.{page as onPage, shown};
 ghost use Rattle.report.specs.Text.{reportOf};

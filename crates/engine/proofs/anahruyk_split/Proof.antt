@@ -1,8 +1,8 @@
 -- `engine::anahruyk_split` meets its contract: the numbers of the answer that `split` gives, and the bytes that it leaves.
 use mathlib.Core.Path.{ap, _∙_}
 use borrow.Author.Needs.{needs}
-use Rattle.engine.specs.Answers.{numbersOf}
-use Rattle.engine.specs.Call.{Returned}
+use Rattle.demands.specs.Answers.{numbersOf}
+use Rattle.demands.specs.Call.{Returned}
 use Rattle.engine.proofs.anahruyk_split.Statement.{statement}
 use Rattle.engine.proofs.anahruyk_split.Tie as tie
 

@@ -15,9 +15,9 @@ use Rattle.tables.specs.declared.Check.the-variants.{Sound}
 use Rattle.tables.specs.declared.Tables.{Tables}
 use Rattle.tables.proofs.Check.{the-type}
 use Rattle.closure.specs.Opening.{ReadFrom}
-use Rattle.engine.specs.declared.Answer.{Answer}
-use Rattle.engine.specs.Call.{Buffers, Returned}
-use Rattle.engine.proofs.Ways.{judged-refused, judged-ended}
+use Rattle.demands.specs.declared.Answer.{Answer}
+use Rattle.demands.specs.Call.{Buffers, Returned}
+use Rattle.demands.proofs.Ways.{judged-refused, judged-ended}
 use borrow.Author.Needs.{needs}
 use Rattle.engine.proofs.split.Statement.{statement}
 use Rattle.engine.proofs.split.Tie as tie

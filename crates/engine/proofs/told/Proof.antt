@@ -1,7 +1,7 @@
 -- `engine::told` meets its contract: the answer is the variant that its arm tells.
 use mathlib.Core.Path.{ap, sym}
 use borrow.Author.Needs.{needs}
-use Rattle.engine.specs.Answers.{numbersOf}
+use Rattle.demands.specs.Answers.{numbersOf}
 use Rattle.engine.proofs.told.Statement.{statement}
 use Rattle.engine.proofs.told.Tie as tie
 

@@ -1,6 +1,6 @@
 -- `report::report` meets its contract: each verdict's text, written from the start of the buffer, is shown in it.
 use mathlib.Core.Path.{ap}
-use Rattle.engine.specs.declared.Answer.{Answer}
+use Rattle.demands.specs.declared.Answer.{Answer}
 use Rattle.report.specs.Text.{reportOf}
 use Rattle.report.proofs.Pages.{shown-as}
 use borrow.Author.Needs.{needs}

@@ -12,7 +12,7 @@ use Rattle.closure.specs.OwnRun.{ownRun}
 use Rattle.closure.specs.Opening.{ReadFrom}
 use Rattle.closure.specs.Stepping.{Ends as RunEnds}
 use Rattle.closure.specs.declared.step.Stepped.{Stepped}
-use Rattle.engine.specs.Call.{ended}
+use Rattle.demands.specs.Call.{ended}
 use Rattle.engine.specs.Ending.{Ends, termsIn, literalsIn}
 use borrow.Author.Needs.{needs}
 use Rattle.engine.proofs.answers.ended.Statement.{statement}

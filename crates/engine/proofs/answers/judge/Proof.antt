@@ -1,7 +1,7 @@
 -- `engine::answers::judge` meets its contract: each way goes on as the verdict does.
 use mathlib.Core.Path.{_≡_, sym, ap, _∙_}
 use Rattle.tables.specs.Checks.{foundOf}
-use Rattle.engine.specs.Call.{verdict}
+use Rattle.demands.specs.Call.{verdict}
 use Rattle.engine.specs.Ending.{termsIn, literalsIn}
 use borrow.Author.Needs.{needs}
 use Rattle.engine.proofs.answers.judge.Statement.{statement}

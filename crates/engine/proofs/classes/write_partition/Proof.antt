@@ -6,7 +6,7 @@ use Prim.Native.Nat.{ℕ, _*_, _-_, _≤_}
 use native.Mathlib.Omega.{arith}
 use lib.ListN.{length, take}
 use Rattle.tables.specs.Bytes.{wordBytes}
-use Rattle.engine.specs.Buffers.{writtenOver}
+use Rattle.demands.specs.Buffers.{writtenOver}
 use Rattle.engine.specs.Ending.{classBy}
 use Rattle.engine.proofs.Writing.{Written, written-none, written-more, written-all}
 use Rattle.closure.proofs.InArrays.Beginning.{terms-fit}

@@ -2,8 +2,8 @@
 use mathlib.Core.Path.{sym, ap}
 use Rattle.tables.specs.Checks.{numberOf, placeIn}
 use Rattle.tables.specs.declared.Check.{Check}
-use Rattle.engine.specs.declared.Answer.{Answer}
-use Rattle.engine.specs.declared.Answer.the-variants.{Refused}
+use Rattle.demands.specs.declared.Answer.{Answer}
+use Rattle.demands.specs.declared.Answer.the-variants.{Refused}
 use borrow.Author.Needs.{needs}
 use Rattle.engine.proofs.verdict.refusal.Statement.{statement}
 use Rattle.engine.proofs.verdict.refusal.Tie as tie

@@ -21,10 +21,10 @@ use Rattle.clauses.specs.Reading.{summary}
 use Rattle.clauses.specs.Records.{standing}
 use Rattle.clauses.specs.ReadBack.{clausesRead}
 use Rattle.clauses.specs.Truth.{Summarises}
-use Rattle.engine.specs.declared.Answer.the-variants.{Consistent, Inconsistent, Refused}
-use Rattle.engine.specs.Buffers.{classAt, LowestInClass}
-use Rattle.engine.specs.Call.{Buffers, Returned, judged}
-use Rattle.engine.specs.Refusals.{Carried, Refusal}
+use Rattle.demands.specs.declared.Answer.the-variants.{Consistent, Inconsistent, Refused}
+use Rattle.demands.specs.Buffers.{classAt, LowestInClass}
+use Rattle.demands.specs.Call.{Buffers, Returned, judged}
+use Rattle.demands.specs.Refusals.{Carried, Refusal}
 
 -- "The engine takes any bytes as term and literal tables and always returns. A refusal has the number and place of document 01, comes only where 01
 -- says, and changes no output byte."

@@ -36,17 +36,17 @@ use Rattle.clauses.specs.Truth.{Summarises}
 use Rattle.clauses.proofs.Interpolation.{summary-shared, summary-A, summary-B}
 use Rattle.clauses.proofs.Order.{OneEach, standing-true, shared-standing}
 use Rattle.clauses.proofs.OneClause.{summary-one-each, written-summarises}
-use Rattle.engine.specs.declared.Answer.{Answer}
-use Rattle.engine.specs.declared.Answer.the-variants.{Consistent, Inconsistent, Refused}
-use Rattle.engine.specs.Buffers.{classNumber, writtenOver, classAt, LowestInClass}
-use Rattle.engine.specs.Call.{Buffers, Returned, recordsIn, judged}
-use Rattle.engine.specs.Refusals.{Carried, Refusal}
-use Rattle.engine.specs.Demands.{Demand1, Classes, Demand2, Demand3, Demand3Returned}
-use Rattle.engine.proofs.AddedTerms.{addedBytes, addedBytes-length, table-read}
-use Rattle.engine.proofs.AddedFit.{added-fits}
-use Rattle.engine.proofs.Critical.{critical-found, critical-none}
-use Rattle.engine.proofs.Partition.{inClass, class-lowest, class-idle, class-joined, partition-read}
-use Rattle.engine.proofs.Ways.{came-refused, came-consistent, came-inconsistent, refusal-given, CameConsistent, CameInconsistent, clauseBytesOf}
+use Rattle.demands.specs.declared.Answer.{Answer}
+use Rattle.demands.specs.declared.Answer.the-variants.{Consistent, Inconsistent, Refused}
+use Rattle.demands.specs.Buffers.{classNumber, writtenOver, classAt, LowestInClass}
+use Rattle.demands.specs.Call.{Buffers, Returned, recordsIn, judged}
+use Rattle.demands.specs.Refusals.{Carried, Refusal}
+use Rattle.demands.specs.Demands.{Demand1, Classes, Demand2, Demand3, Demand3Returned}
+use Rattle.demands.proofs.AddedTerms.{addedBytes, addedBytes-length, table-read}
+use Rattle.demands.proofs.AddedFit.{added-fits}
+use Rattle.demands.proofs.Critical.{critical-found, critical-none}
+use Rattle.demands.proofs.Partition.{inClass, class-lowest, class-idle, class-joined, partition-read}
+use Rattle.demands.proofs.Ways.{came-refused, came-consistent, came-inconsistent, refusal-given, CameConsistent, CameInconsistent, clauseBytesOf}
 
 -- ---- what holds of tables that pass rows 1 to 6, for every run
 

@@ -19,7 +19,7 @@ use Rattle.tables.proofs.Words.{and-left, and-right, and-both, by-test, passes,
 use Rattle.tables.proofs.WordBytes.{word-read, record-read, records-length}
 use Rattle.closure.specs.Graph.{Graph, joined}
 use Rattle.closure.proofs.Walking.Joined.{joined-self, joined-sym, joined-trans}
-use Rattle.engine.specs.Buffers.{classNumber, partitionBytes, writtenOver, classAt}
+use Rattle.demands.specs.Buffers.{classNumber, partitionBytes, writtenOver, classAt}
 
 -- one list after the other is the same said of the list of them
 pub flatMap-of-map {ℓ κ} : {X : Type ℓ} {Y : Type κ} (f : X → List Y) (xs : List X) → flatMap f xs ≡ flatMap (λ r. r) (map f xs)

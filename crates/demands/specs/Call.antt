@@ -15,9 +15,9 @@ use Rattle.closure.specs.OwnRun.{ownRun}
 use Rattle.clauses.specs.Clauses.{Clause}
 use Rattle.clauses.specs.Reading.{literalAt, critical, summary}
 use Rattle.clauses.specs.Records.{clauseRecords}
-use Rattle.engine.specs.declared.Answer.{Answer}
-use Rattle.engine.specs.declared.Answer.the-variants.{Consistent, Inconsistent, Refused}
-use Rattle.engine.specs.Buffers.{partitionBytes, termBytes, writtenOver, tooShort}
+use Rattle.demands.specs.declared.Answer.{Answer}
+use Rattle.demands.specs.declared.Answer.the-variants.{Consistent, Inconsistent, Refused}
+use Rattle.demands.specs.Buffers.{partitionBytes, termBytes, writtenOver, tooShort}
 
 -- the three lent buffers, as bytes
 pub record Buffers : Type 0 where

@@ -21,12 +21,12 @@ use Rattle.closure.specs.OwnRun.{ownRun}
 use Rattle.closure.proofs.Running.OwnRun.{own-run-never-stuck}
 use Rattle.clauses.specs.Reading.{literalAt, critical, summary}
 use Rattle.clauses.proofs.Records.{clauseBytes-length}
-use Rattle.engine.proofs.AddedTerms.{addedBytes-length}
-use Rattle.engine.proofs.Partition.{partition-length}
-use Rattle.engine.specs.declared.Answer.the-variants.{Consistent, Inconsistent, Refused}
-use Rattle.engine.specs.Buffers.{partitionBytes, termBytes, writtenOver, tooShort}
-use Rattle.engine.specs.Refusals.{Carried, Refusal, by-row, partition-short, added-short, clauses-short}
-use Rattle.engine.specs.Call.{Buffers, Returned, refused, consistent, inconsistent, recordsIn, verdict, ended, afterChecks, judged}
+use Rattle.demands.proofs.AddedTerms.{addedBytes-length}
+use Rattle.demands.proofs.Partition.{partition-length}
+use Rattle.demands.specs.declared.Answer.the-variants.{Consistent, Inconsistent, Refused}
+use Rattle.demands.specs.Buffers.{partitionBytes, termBytes, writtenOver, tooShort}
+use Rattle.demands.specs.Refusals.{Carried, Refusal, by-row, partition-short, added-short, clauses-short}
+use Rattle.demands.specs.Call.{Buffers, Returned, refused, consistent, inconsistent, recordsIn, verdict, ended, afterChecks, judged}
 
 -- a check is sound, or some row refuses
 sound-or-refused : (check : Check) → (check ≡ Sound) ⊎ (check ≡ Sound → ⊥)

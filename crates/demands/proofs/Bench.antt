@@ -3,8 +3,8 @@
 use mathlib.Core.List.{List, [], _∷_, _++_, map, flatMap, zipWith}
 use mathlib.Core.Path.{_≡_, refl}
 use Prim.Native.Nat.{ℕ}
-use Rattle.engine.specs.declared.Answer.the-variants.{Consistent, Inconsistent}
-use Rattle.engine.specs.Call.{Buffers, Returned, judged}
+use Rattle.demands.specs.declared.Answer.the-variants.{Consistent, Inconsistent}
+use Rattle.demands.specs.Call.{Buffers, Returned, judged}
 use Rattle.tables.specs.Words.{below, any, every, keep, among, same, someBelow, orElse, firstBelow, firstOf, pairsBelow}
 use Rattle.tables.specs.Terms.{downTo, down, parts, symbols}
 use Rattle.tables.specs.TermTable.{breaksLayout, hadOtherArity, equalsEarlier, termsOf}

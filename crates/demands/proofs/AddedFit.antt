@@ -22,7 +22,7 @@ use Rattle.closure.proofs.Running.Vertices.{added-vertex}
 use Rattle.closure.proofs.Running.States.{SoundState, Known}
 use Rattle.closure.proofs.Running.Runs.{run-sound, run-known}
 use Rattle.closure.proofs.Running.FewSteps.{few-added}
-use Rattle.engine.proofs.AddedTerms.{TermFits}
+use Rattle.demands.proofs.AddedTerms.{TermFits}
 
 -- a byte of a table is below 256, and so is what stands for one that is not there
 byte-small : (bs : List ℕ) → AllBytes bs → (i : ℕ) → getD bs i 0 < 256

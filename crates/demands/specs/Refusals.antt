@@ -12,7 +12,7 @@ use Rattle.tables.specs.declared.Check.the-variants.{Sound}
 use Rattle.closure.specs.Steps.{State}
 use Rattle.closure.specs.OwnRun.{ownRun}
 use Rattle.clauses.specs.Reading.{literalAt, critical}
-use Rattle.engine.specs.Call.{Buffers, recordsIn}
+use Rattle.demands.specs.Call.{Buffers, recordsIn}
 
 -- the tables pass rows 1 to 6, and st is the last state of the library's own run
 pub record Carried (terms literals : List ℕ) (st : State) : Type 0 where

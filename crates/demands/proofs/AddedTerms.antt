@@ -14,7 +14,7 @@ use Rattle.tables.proofs.Words.{and-left, and-right, failed, getD-mem, below-me
 use Rattle.tables.proofs.Terms.{map-agree}
 use Rattle.tables.specs.Bytes.{AllBytes}
 use Rattle.tables.proofs.WordBytes.{word-value, bytes-none, bytes-cons, bytes-append, bytes-flatMap, wordBytes-bytes, record-read, records-read, records-length, record-behind, records-behind}
-use Rattle.engine.specs.Buffers.{termBytes}
+use Rattle.demands.specs.Buffers.{termBytes}
 
 -- a term whose record has room for it: at most four arguments, and numbers that fit two bytes
 pub record TermFits (m : Term) : Type 0 where

@@ -1,0 +1,8 @@
+-- Theorems about the definitions of specs/.
+pub mod Bench
+pub mod AddedTerms
+pub mod Critical
+pub mod Partition
+pub mod Ways
+pub mod AddedFit
+pub mod Promises
