@@ -10,8 +10,8 @@ use Rattle.tables.specs.LiteralTable.{Literal, equal, isEqual}
 use Rattle.tables.specs.declared.Side.{Side}
 use Rattle.tables.specs.declared.Side.the-variants.{A, B}
 use Rattle.tables.specs.Colours.{colourable}
-use Rattle.closure.specs.Graph.{Graph, Hop, Path, joined, path}
-use Rattle.clauses.specs.Clauses.{between, Clause, Conclusion, equals, differs, falsum}
+use Rattle.closure.specs.Graph.{Graph, Path, joined, path}
+use Rattle.clauses.specs.Clauses.{between, Clause, Conclusion, differs, falsum}
 use Rattle.clauses.specs.Premises.{premises, pathClauses}
 
 -- the literal of a number

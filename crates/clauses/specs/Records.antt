@@ -1,5 +1,5 @@
 -- 01, "Reading the clauses": the order of the clauses, and the clause records.
-use mathlib.Core.Bool.{Bool, true, false, cond, _&&_, _||_}
+use mathlib.Core.Bool.{Bool, true, false}
 use mathlib.Core.List.{List, [], _∷_, _++_, map, flatMap}
 use Prim.Native.Nat.{ℕ}
 use Rattle.tables.specs.Words.{Pair, pair, samePair, any, keep, pairsBelow}

@@ -1,5 +1,4 @@
 -- What demand 3 says of a summary: its symbols are shared, and when a clause is true in an interpretation.
-use mathlib.Core.Bool.{Bool, _&&_}
 use mathlib.Core.List.{List, List·Memᴰ}
 use mathlib.Core.Path.{_≡_}
 use Prim.Native.Nat.{ℕ}
@@ -7,7 +6,6 @@ use lib.Dec.{T}
 use Rattle.tables.specs.Words.{Pair}
 use Rattle.tables.specs.Terms.{Term, symbols}
 use Rattle.tables.specs.LiteralTable.{Literal}
-use Rattle.tables.specs.declared.Side.{Side}
 use Rattle.tables.specs.declared.Side.the-variants.{A, B}
 use Rattle.tables.specs.Colours.{occursIn}
 use Rattle.tables.specs.Interpretations.{Interpretation, value, Satisfies}

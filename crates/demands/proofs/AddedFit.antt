@@ -1,25 +1,23 @@
 -- The added terms of a run fit their records: each has the symbol and as many arguments as a given term, and arguments lower than itself.
-use mathlib.Core.List.{List, [], _∷_, _++_, map, List·Memᴰ}
+use mathlib.Core.List.{List, List·Memᴰ}
 use mathlib.Core.Path.{_≡_, refl, sym, ap, subst, _∙_}
 use Prim.Native.Nat.{ℕ, _+_, _*_, _≤_, _<_}
 use native.Mathlib.Omega.{arith}
 use lib.Dec.{T, ltb, ltb→lt, nltb→le, lit<}
-use lib.ListN.{length, getD, take, drop, length-append, length-map, length-take, List·getD-eq-default}
+use lib.ListN.{length, getD, drop, length-append, length-map, length-take, List·getD-eq-default}
 use lib.Seq.{getD-take, getD-drop, getD-append-add}
 use Rattle.tables.specs.Terms.{Term, noTerm, termAt}
 use Rattle.tables.specs.TermTable.{termCount, termRecord, symbolField, arityField, termOf, termsOf}
-use Rattle.tables.specs.LiteralTable.{Literal, literalsOf}
-use Rattle.tables.specs.Colours.{inUse}
+use Rattle.tables.specs.LiteralTable.{literalsOf}
 use Rattle.tables.proofs.Words.{by-test, passes, fails, getD-mem, mem-getD}
 use Rattle.tables.specs.Bytes.{AllBytes}
 use Rattle.tables.proofs.Terms.{termAt-append}
 use Rattle.tables.proofs.Colours.{inUse-within}
 use Rattle.tables.proofs.Sound.{SoundTables, length-termsOf, termAt-termsOf, arity-small, lower-arguments, sides-within}
-use Rattle.closure.specs.Graph.{Graph, joined, joinedPairwise}
-use Rattle.closure.specs.Steps.{State, tableOf, congruent, Run}
+use Rattle.closure.specs.Graph.{Graph, joinedPairwise}
+use Rattle.closure.specs.Steps.{State, tableOf, Run}
 use Rattle.closure.proofs.Running.Congruent.{pairwise-agree, congruent-symbol, congruent-arguments}
 use Rattle.closure.proofs.Running.Vertices.{added-vertex}
-use Rattle.closure.proofs.Running.States.{SoundState, Known}
 use Rattle.closure.proofs.Running.Runs.{run-sound, run-known}
 use Rattle.closure.proofs.Running.FewSteps.{few-added}
 use Rattle.demands.proofs.AddedTerms.{TermFits}

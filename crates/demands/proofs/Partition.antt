@@ -1,9 +1,9 @@
 -- What the partition's bytes say: a class number for each given term.
-use mathlib.Core.Bool.{Bool, true, false, cond, not, _&&_}
+use mathlib.Core.Bool.{Bool, not, _&&_}
 use mathlib.Core.List.{List, [], _∷_, _++_, map, flatMap, List·Memᴰ, Memᴰ·of-map}
 use mathlib.Core.Logic.{_⊎_, inl, inr, _↔_}
 use mathlib.Core.Option.{Option, some, none, Option·getD}
-use mathlib.Core.Path.{_≡_, refl, sym, ap, ap₂, subst, _∙_}
+use mathlib.Core.Path.{_≡_, refl, sym, ap, subst, _∙_}
 use Prim.Native.Nat.{ℕ, zero, suc, _+_, _*_, _≤_, _<_}
 use native.Mathlib.Nat.{not-suc-le-zero}
 use native.Mathlib.Omega.{arith}
@@ -11,7 +11,7 @@ use lib.Dec.{T, lit<}
 use lib.ListN.{length, getD, drop, length-map, List·getD-map, List·getD-append}
 use lib.Seq.{getD-at}
 use Rattle.tables.specs.Words.{below, firstBelow, First}
-use Rattle.tables.specs.Bytes.{wordAt, recordAt, wordBytes}
+use Rattle.tables.specs.Bytes.{wordAt, wordBytes}
 use Rattle.tables.specs.Terms.{Term}
 use Rattle.tables.specs.LiteralTable.{Literal}
 use Rattle.tables.specs.Colours.{inUse}

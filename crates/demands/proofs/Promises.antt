@@ -20,10 +20,9 @@ use Rattle.tables.specs.declared.Check.the-variants.{Sound}
 use Rattle.tables.specs.Interpretations.{Satisfiable, FinitelySatisfiable, Entailed, FinitelyEntailed}
 use Rattle.tables.proofs.Colours.{SidesWithin, inUse-within}
 use Rattle.tables.proofs.Words.{and-left, and-right, and-both}
-use Rattle.tables.proofs.Sound.{SoundTables, sound, length-termsOf, lower-arguments, sides-within}
+use Rattle.tables.proofs.Sound.{sound, length-termsOf, lower-arguments, sides-within}
 use Rattle.closure.specs.Graph.{joined}
 use Rattle.closure.specs.Steps.{State, tableOf, Run, NoStepLeft}
-use Rattle.closure.proofs.Running.States.{SoundState}
 use Rattle.closure.proofs.Running.Runs.{run-sound}
 use Rattle.closure.proofs.Running.OwnRun.{own-run}
 use Rattle.closure.proofs.Running.FewSteps.{fewer-steps, few-added, own-run-complete}
@@ -39,14 +38,14 @@ use Rattle.clauses.proofs.OneClause.{summary-one-each, written-summarises}
 use Rattle.demands.specs.declared.Answer.{Answer}
 use Rattle.demands.specs.declared.Answer.the-variants.{Consistent, Inconsistent, Refused}
 use Rattle.demands.specs.Buffers.{classNumber, writtenOver, classAt, LowestInClass}
-use Rattle.demands.specs.Call.{Buffers, Returned, recordsIn, judged}
+use Rattle.demands.specs.Call.{Buffers, recordsIn, judged}
 use Rattle.demands.specs.Refusals.{Carried, Refusal}
-use Rattle.demands.specs.Demands.{Demand1, Classes, Demand2, Demand3, Demand3Returned}
+use Rattle.demands.specs.Demands.{Demand1, Demand2, Demand3, Demand3Returned}
 use Rattle.demands.proofs.AddedTerms.{addedBytes, addedBytes-length, table-read}
 use Rattle.demands.proofs.AddedFit.{added-fits}
 use Rattle.demands.proofs.Critical.{critical-found, critical-none}
 use Rattle.demands.proofs.Partition.{inClass, class-lowest, class-idle, class-joined, partition-read}
-use Rattle.demands.proofs.Ways.{came-refused, came-consistent, came-inconsistent, refusal-given, CameConsistent, CameInconsistent, clauseBytesOf}
+use Rattle.demands.proofs.Ways.{came-refused, came-consistent, came-inconsistent, refusal-given, CameConsistent, clauseBytesOf}
 
 -- ---- what holds of tables that pass rows 1 to 6, for every run
 

@@ -1,21 +1,21 @@
 -- The ways in which a call comes back: a row that refuses, or one of the two verdicts, with room or without. There is no other.
-use mathlib.Core.Bool.{Bool, true, false, cond, not}
-use mathlib.Core.List.{List, [], _∷_, map, flatMap}
+use mathlib.Core.Bool.{Bool, cond, not}
+use mathlib.Core.List.{List, map, flatMap}
 use mathlib.Core.Logic.{_⊎_, inl, inr, ⊎-elim}
-use mathlib.Core.Option.{Option, some, none, Option·none-ne-some}
+use mathlib.Core.Option.{Option, some, none}
 use mathlib.Core.Path.{_≡_, refl, sym, ap, ap₂, subst, _∙_}
 use Prim.Native.Nat.{ℕ, _*_, _≤_, _<_}
 use native.Mathlib.Omega.{arith}
 use lib.Dec.{T, ltb, lt→ltb, ltb→lt, nltb→le, not-T}
 use lib.ListN.{length, length-map}
-use Rattle.tables.specs.Terms.{Term, LowerArguments}
+use Rattle.tables.specs.Terms.{Term}
 use Rattle.tables.specs.TermTable.{termsOf}
 use Rattle.tables.specs.LiteralTable.{Literal, literalsOf}
 use Rattle.tables.specs.Checks.{checked, numberOf, placeIn}
 use Rattle.tables.specs.declared.Check.{Check}
 use Rattle.tables.specs.declared.Check.the-variants.{Sound, Length, Count, Layout, Arity, Repeated, Literal as LiteralRow}
 use Rattle.tables.proofs.Words.{by-test, passes, fails, passed, failed}
-use Rattle.tables.proofs.Sound.{SoundTables, sound, lower-arguments, sides-within, refused-number}
+use Rattle.tables.proofs.Sound.{sound, lower-arguments, sides-within, refused-number}
 use Rattle.closure.specs.Steps.{State, tableOf}
 use Rattle.closure.specs.OwnRun.{ownRun}
 use Rattle.closure.proofs.Running.OwnRun.{own-run-never-stuck}

@@ -1,6 +1,6 @@
 -- The whole call: the two tables and the three lent buffers as bytes, and all that comes back. 01's rows in their order.
-use mathlib.Core.Bool.{Bool, cond}
-use mathlib.Core.List.{List, [], _∷_, map, flatMap}
+use mathlib.Core.Bool.{cond}
+use mathlib.Core.List.{List, map, flatMap}
 use mathlib.Core.Option.{Option, some, none}
 use Prim.Native.Nat.{ℕ}
 use lib.Dec.{eqb}
@@ -12,7 +12,6 @@ use Rattle.tables.specs.Checks.{checked, numberOf, placeIn}
 use Rattle.tables.specs.declared.Check.{Check}
 use Rattle.closure.specs.Steps.{State, tableOf}
 use Rattle.closure.specs.OwnRun.{ownRun}
-use Rattle.clauses.specs.Clauses.{Clause}
 use Rattle.clauses.specs.Reading.{literalAt, critical, summary}
 use Rattle.clauses.specs.Records.{clauseRecords}
 use Rattle.demands.specs.declared.Answer.{Answer}

@@ -12,8 +12,6 @@ use Rattle.tables.specs.Terms.{Term}
 use Rattle.tables.specs.TermTable.{termsOf}
 use Rattle.tables.specs.LiteralTable.{Literal, different, literalsOf}
 use Rattle.tables.specs.Colours.{inUse}
-use Rattle.tables.specs.Checks.{checked}
-use Rattle.tables.specs.declared.Check.the-variants.{Sound}
 use Rattle.tables.specs.Interpretations.{Satisfiable, FinitelySatisfiable, Entailed, FinitelyEntailed}
 use Rattle.closure.specs.Graph.{joined}
 use Rattle.closure.specs.Steps.{State, tableOf, Run, NoStepLeft}
@@ -23,7 +21,7 @@ use Rattle.clauses.specs.ReadBack.{clausesRead}
 use Rattle.clauses.specs.Truth.{Summarises}
 use Rattle.demands.specs.declared.Answer.the-variants.{Consistent, Inconsistent, Refused}
 use Rattle.demands.specs.Buffers.{classAt, LowestInClass}
-use Rattle.demands.specs.Call.{Buffers, Returned, judged}
+use Rattle.demands.specs.Call.{Buffers, judged}
 use Rattle.demands.specs.Refusals.{Carried, Refusal}
 
 -- "The engine takes any bytes as term and literal tables and always returns. A refusal has the number and place of document 01, comes only where 01

@@ -1,16 +1,16 @@
 -- Laws of terms in use and of colours.
-use mathlib.Core.Bool.{Bool, true, false, cond, not, _&&_, _||_}
-use mathlib.Core.List.{List, [], _∷_, _++_, map, List·Memᴰ, List·Memᴰ·append-cases, Memᴰ·append-left, Memᴰ·append-right}
-use mathlib.Core.Logic.{_⊎_, inl, inr, ⊎-elim, _↔_}
-use mathlib.Core.Path.{_≡_, refl, sym, ap, subst, _∙_}
-use Prim.Native.Nat.{ℕ, zero, suc, _≤_, _<_}
+use mathlib.Core.Bool.{_&&_}
+use mathlib.Core.List.{List, _++_, List·Memᴰ, List·Memᴰ·append-cases, Memᴰ·append-left, Memᴰ·append-right}
+use mathlib.Core.Logic.{_⊎_, inl, inr, ⊎-elim}
+use mathlib.Core.Path.{_≡_, refl, sym, ap, subst}
+use Prim.Native.Nat.{ℕ, _<_}
 use native.Mathlib.Omega.{arith}
 use lib.Dec.{T}
 use lib.ListN.{length}
-use Rattle.tables.specs.Words.{any, every, among}
+use Rattle.tables.specs.Words.{every, among}
 use Rattle.tables.specs.Terms.{Term, termAt, parts, symbols, Part, itself, deeper, LowerArguments}
 use Rattle.tables.specs.LiteralTable.{Side, A, B, sameSide, Literal}
-use Rattle.tables.specs.Colours.{inUse, occursIn, colourable, shared, edgeColourable}
+use Rattle.tables.specs.Colours.{inUse, occursIn, colourable}
 use Rattle.tables.proofs.Words.{and-left, and-right, and-both, any-some, some-any, every-all, all-every, among-mem, mem-among}
 use Rattle.tables.proofs.Terms.{mem-part, part-mem, part-le, part-trans, symbol-of-part, part-symbol, symbols-append}
 

@@ -1,12 +1,11 @@
 -- Laws of terms: what is worked out all the way down follows from the arguments, and terms behind the given ones change nothing of it.
-use mathlib.Core.Bool.{Bool}
 use mathlib.Core.List.{List, [], _∷_, _++_, map, flatMap, List·Memᴰ, List·Memᴰ·head, List·Memᴰ·tail, List·Memᴰ·not-nil, List·Memᴰ·cases-cons, Memᴰ·map, Memᴰ·of-map}
-use mathlib.Core.Logic.{_⊎_, inl, inr, ⊎-elim, _↔_}
+use mathlib.Core.Logic.{_⊎_, inl, inr}
 use mathlib.Core.Path.{_≡_, refl, sym, ap, ap₂, subst, _∙_}
 use Prim.Native.Nat.{ℕ, zero, suc, _+_, _≤_, _<_}
 use native.Mathlib.Nat.{le-refl, not-suc-le-zero}
 use native.Mathlib.Omega.{arith}
-use lib.ListN.{length, getD, length-append, List·getD-append}
+use lib.ListN.{length, length-append, List·getD-append}
 use Rattle.tables.specs.Terms.{Term, termAt, downTo, down, parts, symbols, Part, itself, deeper, LowerArguments}
 use Rattle.tables.specs.Interpretations.{Interpretation, value}
 use Rattle.tables.proofs.Words.{flatMap-mem, mem-flatMap}

@@ -1,12 +1,12 @@
 -- 01, "What comes back", rows 1 to 6: "Checks run in the order of the rows, each over its whole table before the next; in rows 1, 2 and 7 the lower
 -- place first."
 use mathlib.Core.Bool.{Bool, cond, not}
-use mathlib.Core.List.{List, [], _∷_}
+use mathlib.Core.List.{List}
 use mathlib.Core.Option.{Option, some, none}
 use Prim.Native.Nat.{ℕ, _%_}
 use lib.ListN.{length}
 use lib.Dec.{eqb, ltb}
-use Rattle.tables.specs.Words.{firstBelow, orElse}
+use Rattle.tables.specs.Words.{firstBelow}
 use Rattle.tables.specs.TermTable.{termCount, breaksLayout, hadOtherArity, equalsEarlier}
 use Rattle.tables.specs.LiteralTable.{literalCount, breaksLiteral}
 use Rattle.tables.specs.declared.Found.{Found}

@@ -1,5 +1,5 @@
 -- 01, "Symbols and colours". ts are the given terms and ls the literals; a table may have added terms behind the given ones.
-use mathlib.Core.Bool.{Bool, cond, not, _&&_, _||_}
+use mathlib.Core.Bool.{Bool, _&&_}
 use mathlib.Core.List.{List, _++_}
 use Prim.Native.Nat.{ℕ}
 use Rattle.tables.specs.Words.{any, every, among}

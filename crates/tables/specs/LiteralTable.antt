@@ -1,5 +1,5 @@
 -- 01: "Literal record, 8 bytes: 0 side (1 = A, 2 = B); 1 kind (1 equal, 2 different); 2-3 left; 4-5 right; 6-7 zero."
-use mathlib.Core.Bool.{Bool, true, false, cond, not, _&&_, _||_}
+use mathlib.Core.Bool.{Bool, true, false, cond, not, _||_}
 use mathlib.Core.List.{List, map}
 use Prim.Native.Nat.{ℕ}
 use lib.Dec.{eqb, leb}

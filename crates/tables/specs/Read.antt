@@ -1,14 +1,14 @@
 -- What the layers above work on: the tables read into arrays. Past the counts an array holds 0, or false.
-use mathlib.Core.Bool.{Bool, true, false, cond}
+use mathlib.Core.Bool.{false, cond}
 use mathlib.Core.List.{List, [], _∷_, _++_, map}
 use Prim.Native.Nat.{ℕ, _+_, _-_, min}
 use lib.Dec.{eqb}
-use lib.ListN.{length, replicate}
+use lib.ListN.{replicate}
 use Rattle.tables.specs.Words.{below}
 use Rattle.tables.specs.Bytes.{byteAt, wordAt}
 use Rattle.tables.specs.Terms.{Term}
 use Rattle.tables.specs.TermTable.{termCount, termRecord, symbolField, arityField, rowOf, termsOf}
-use Rattle.tables.specs.LiteralTable.{Side, A, B, Literal, literalCount, literalRecord, literalsOf}
+use Rattle.tables.specs.LiteralTable.{A, B, Literal, literalCount, literalRecord, literalsOf}
 use Rattle.tables.specs.Colours.{inUse, colourable}
 use Rattle.tables.specs.Checks.{checked, numberOf}
 use Rattle.tables.specs.declared.Check.{Check}

@@ -2,7 +2,7 @@
 use mathlib.Core.Bool.{Bool, not, _&&_, _||_}
 use mathlib.Core.List.{List, [], _∷_, map}
 use Prim.Native.Nat.{ℕ, _+_, _*_}
-use lib.ListN.{take, getD}
+use lib.ListN.{take}
 use lib.Dec.{eqb, ltb, leb}
 use Rattle.tables.specs.Words.{below, any, same, someBelow}
 use Rattle.tables.specs.Bytes.{byteAt, wordAt, countOf, recordAt}

@@ -1,7 +1,7 @@
 -- `report::page::number` meets its contract. The measure is the number: without its last digit it is lower.
 use mathlib.Core.Path.{ap, sym, _∙_}
 use native.Mathlib.Omega.{arith}
-use Rattle.report.specs.Page.{page, puts}
+use Rattle.report.specs.Page.{puts}
 use Rattle.report.proofs.Pages.{and-then}
 use Rattle.report.proofs.Digits.{digits-one, digits-last}
 use borrow.Author.Needs.{needs}

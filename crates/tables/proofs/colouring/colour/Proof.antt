@@ -2,7 +2,7 @@
 use mathlib.Core.List.{List}
 use lib.ListN.{getD, length-replicate}
 use mathlib.Core.Bool.{Bool, false, not, cond}
-use mathlib.Core.Path.{_≡_, ap, ap₂, subst, _∙_}
+use mathlib.Core.Path.{_≡_, ap₂, subst, _∙_}
 use Prim.Native.Nat.{ℕ, _+_, _-_}
 use native.Mathlib.Omega.{arith}
 use borrow.Author.Needs.{needs}
