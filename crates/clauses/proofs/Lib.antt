@@ -10,3 +10,4 @@ pub mod Order
 pub mod Records
 pub mod Backwards
 pub mod OneClause
+pub mod Pieces

@@ -4,5 +4,6 @@ pub mod Walks
 pub mod Invariant
 pub mod OnePath
 pub mod Parents
+pub mod Places
 pub mod ParentPaths
 pub mod Count

@@ -20,7 +20,7 @@ use Rattle.clauses.specs.Clauses.{between, Conclusion, differs, falsum}
 use Rattle.clauses.specs.Premises.{premises, Premise}
 use Rattle.clauses.specs.Records.{amongPairs, ascending, clauseRecord, conclusionRecord, recordsOf}
 use Rattle.summing.specs.declared.drawing.Drawing.{Drawing}
-use Rattle.summing.specs.Marks.{Reached, PairWithin, PairMarked, Marked, Covered, Owed, Trailed, Within, Wanted, OuterWanted}
+use Rattle.summing.specs.Marks.{Reached, PairWithin, PairMarked, Marked, Covered, Owed, Trailed, Wanted, OuterWanted}
 use Rattle.summing.specs.Drawn.{Drawn, Settled}
 use Rattle.summing.specs.Writing.{putRecord, putRecords, marked, rowPairs, PremisesOut, AllOut}
 use Rattle.summing.specs.Written.{clauseOf, clauseOut, RecordsPut, Clear, Readable, ReadableSome, ClausesPut, Over, Concluding, notAt, LastPut}

@@ -1,12 +1,12 @@
 -- Reading the parent paths of marked edges, from the newest to the oldest: what is owed stays the same until all of it is marked.
 use mathlib.Core.Bool.{Bool, true, false, _&&_, _||_}
-use mathlib.Core.List.{List, [], _∷_, map, zipWith, List·Memᴰ, List·Memᴰ·head, List·Memᴰ·tail, List·Memᴰ·not-nil, List·Memᴰ·cases-cons}
+use mathlib.Core.List.{List, [], _∷_, map, List·Memᴰ}
 use mathlib.Core.Logic.{_⊎_, inl, inr, ⊎-elim, _↔_}
 use mathlib.Core.Path.{_≡_, refl, sym, ap, ap₂, subst, _∙_}
 use Prim.Native.Nat.{ℕ, zero, suc, _+_, _-_, _*_, _≤_, _<_}
 use native.Mathlib.Nat.{not-suc-le-zero}
 use native.Mathlib.Omega.{arith}
-use lib.Dec.{T, eqb}
+use lib.Dec.{T}
 use lib.ListN.{length, getD, drop, length-drop}
 use lib.Seq.{getD-take, getD-drop, length-take-le}
 use Rattle.tables.specs.Words.{Pair}
@@ -17,16 +17,15 @@ use Rattle.closure.specs.declared.Edge.{Edge}
 use Rattle.closure.specs.declared.EdgeKind.{EdgeKind}
 use Rattle.closure.specs.declared.EdgeKind.the-variants.{Basic, Derived}
 use Rattle.closure.specs.declared.paths.Trail.{Trail}
-use Rattle.closure.specs.Graph.{Graph, Hop, Path, forth, vertices, joined, path, joinedPairwise, pathsBetween, parentsOf, parentPaths}
+use Rattle.closure.specs.Graph.{Graph, Hop, Path, forth, vertices, joined, path, parentPaths}
 use Rattle.closure.specs.Walks.{HopOf, onward, earlier, Walk, stay, hop}
-use Rattle.closure.specs.Steps.{congruent}
 use Rattle.closure.specs.Forests.{Each}
 use Rattle.closure.specs.Rooting.{number}
 use Rattle.closure.specs.Trails.{Joining, TrailOf}
 use Rattle.closure.proofs.Walking.Walks.{hop-each, older-fewer, older-joined, path-walk}
-use Rattle.closure.proofs.Walking.Invariant.{Behind}
 use Rattle.closure.proofs.Walking.OnePath.{path-older}
-use Rattle.closure.proofs.Walking.Parents.{hop-sound, path-hop, parent-hop}
+use Rattle.closure.proofs.Walking.Parents.{SoundHop, hop-sound, path-hop, parent-hop}
+use Rattle.closure.proofs.Walking.Places.{basic-parents, joined-place, place-parent, parent-place}
 use Rattle.closure.proofs.Walking.ParentPaths.{sound-forest}
 use Rattle.summing.specs.declared.drawing.Drawing.{Drawing}
 use Rattle.summing.specs.Marks.{isB, Reached, end-of, across, along, EdgeReached, PairWithin, Marked, Covered, Owed, Trailed, done, step, Within, Wanted}
@@ -92,38 +91,6 @@ walk-stops G n m low {u} h (hop {h = g} {π = π} of q w) = go (walk-stops G n m
         numbers : (k : ℕ) → k < length (g ∷ π) → getD (map number (g ∷ π)) k 0 < m
         numbers zero l = low g of .1
         numbers (suc k) l = ih .1 k (omega (arith, l))
-
--- ---- paired arguments
-
--- arguments that are joined pair by pair are as many, and joined at each place
-pub joined-at : (H : Graph) (xs ys : List ℕ) → T (joinedPairwise H xs ys) → (k : ℕ) → k < length xs → (k < length ys) × T (joined H (getD xs k 0) (getD ys k 0))
-unfolding joinedPairwise
-joined-at H [] ys j k h = absurd (not-suc-le-zero h)
-joined-at H (x ∷ xs) [] j k h = absurd j
-joined-at H (x ∷ xs) (y ∷ ys) j zero h = (omega arith, and-left (joined H x y) (joinedPairwise H xs ys) j)
-joined-at H (x ∷ xs) (y ∷ ys) j (suc k) h =
-    let r = joined-at H xs ys (and-right (joined H x y) (joinedPairwise H xs ys) j) k (omega (arith, h)) in
-    (omega (arith, r .0), r .1)
-
--- the path at each place is one of the paths between them
-pub between-at : (H : Graph) (xs ys : List ℕ) (k : ℕ) → k < length xs → k < length ys → List·Memᴰ (path H (getD xs k 0) (getD ys k 0)) (pathsBetween H xs ys)
-unfolding pathsBetween zipWith
-between-at H [] ys k h l = absurd (not-suc-le-zero h)
-between-at H (x ∷ xs) [] k h l = absurd (not-suc-le-zero l)
-between-at H (x ∷ xs) (y ∷ ys) zero h l = List·Memᴰ·head refl
-between-at H (x ∷ xs) (y ∷ ys) (suc k) h l = List·Memᴰ·tail (between-at H xs ys k (omega (arith, h)) (omega (arith, l)))
-
--- and there is no other
-pub at-between : (H : Graph) (xs ys : List ℕ) {π : Path} → List·Memᴰ π (pathsBetween H xs ys) → (k : ℕ) × (k < length xs) × (π ≡ path H (getD xs k 0) (getD ys k 0))
-unfolding pathsBetween zipWith
-at-between H [] [] m = absurd (List·Memᴰ·not-nil m)
-at-between H [] (y ∷ ys) m = absurd (List·Memᴰ·not-nil m)
-at-between H (x ∷ xs) [] m = absurd (List·Memᴰ·not-nil m)
-at-between H (x ∷ xs) (y ∷ ys) {π} m =
-    ⊎-elim (λ e. at-first e) (λ n. let r = at-between H xs ys n in (suc (r .0), omega (arith, r .1), r .2)) (List·Memᴰ·cases-cons m)
-  where
-    at-first : π ≡ path H x y → (k : ℕ) × (k < length (x ∷ xs)) × (π ≡ path H (getD (x ∷ xs) k 0) (getD (y ∷ ys) k 0))
-    at-first e = (0, omega arith, e)
 
 -- ---- the arrays
 
@@ -212,20 +179,16 @@ module _ (arrays : Drawing) (ts : List Term) (ls : List Literal) (table : List T
 
   -- a derived edge's arguments are joined pair by pair, and the paths between them are its parent paths
   module _ (i : ℕ) (h : i < arrays .count) (is : getD (arrays .derived) i false ≡ true) where
-    -- the edge
-    edgeI : EdgeRead i
-    edgeI = edge-read i h
-
     -- the hop over the edge from its left end
     abbrev pub hopI : Hop
     hopI = forth (edge-read i h .edge) (edge-read i h .older)
 
     -- the arguments of its left end
-    xs : List ℕ
+    abbrev xs : List ℕ
     xs = termAt table (getD (arrays .lefts) i 0) .arguments
 
     -- the arguments of its right end
-    ys : List ℕ
+    abbrev ys : List ℕ
     ys = termAt table (getD (arrays .rights) i 0) .arguments
 
     -- its hop is derived
@@ -236,53 +199,42 @@ module _ (arrays : Drawing) (ts : List Term) (ls : List Literal) (table : List T
         go Basic e = let z : _≡_ {A = ℕ} 0 1 = cc in absurd (omega arith)
         go Derived e = refl
 
-    -- its arguments are joined pair by pair
-    pairwise : T (joinedPairwise (hopI .older) xs ys)
-    unfolding congruent xs ys
-    pairwise =
-        let r = edge-read i h in
-        let b = subst (Behind ls table (hopI .older) (r .edge)) kind-derived (hop-sound ts ls table (r .walked) (d .sound) .behind) in
-        subst (λ (x : ℕ). T (joinedPairwise (hopI .older) (termAt table x .arguments) (termAt table (getD (arrays .rights) i 0) .arguments))) (sym (r .left-is))
-        (subst (λ (x : ℕ). T (joinedPairwise (hopI .older) (termAt table (r .edge .left) .arguments) (termAt table x .arguments))) (sym (r .right-is))
-        (and-right (eqb (termAt table (r .edge .left) .symbol) (termAt table (r .edge .right) .symbol)) (joinedPairwise (hopI .older) (termAt table (r .edge .left) .arguments) (termAt table (r .edge .right) .arguments)) b))
+    -- it is sound
+    hop-is : SoundHop ts ls table hopI
+    hop-is = hop-sound ts ls table (edge-read i h .walked) (d .sound)
 
-    -- its parent paths are the paths between them
-    parents-are : parentPaths table hopI ≡ pathsBetween (hopI .older) xs ys
-    unfolding parentPaths parentsOf xs ys
-    parents-are =
-        let r = edge-read i h in
-        ap (λ (k : EdgeKind). parentsOf k (pathsBetween (hopI .older) (termAt table (r .edge .left) .arguments) (termAt table (r .edge .right) .arguments))) kind-derived ∙
-        ap₂ (λ (x y : ℕ). pathsBetween (hopI .older) (termAt table x .arguments) (termAt table y .arguments)) (sym (r .left-is)) (sym (r .right-is))
+    -- the arguments at a place are joined by the older edges
+    joined-here : (k : ℕ) → k < length xs → (k < length ys) × T (joined (hopI .older) (getD xs k 0) (getD ys k 0))
+    joined-here = joined-place ts ls table hopI hop-is kind-derived (getD (arrays .lefts) i 0) (getD (arrays .rights) i 0) (edge-read i h .left-is) (edge-read i h .right-is)
 
     -- at each place of the arity
     pub paired : (k : ℕ) → k < arityAt arrays i → Paired i k (hopI .older) hopI
-    unfolding xs ys
     paired k l =
         let r = edge-read i h in
-        let x = joined-at (hopI .older) xs ys pairwise k (omega (arith, arguments-long (getD (arrays .lefts) i 0) (r .left-low))) in
+        let within : k < length xs = omega (arith, arguments-long (getD (arrays .lefts) i 0) (r .left-low)) in
+        let x = joined-here k within in
         let used : k < getD (arrays .arities) (getD (arrays .rights) i 0) 0 = omega (arith, x .0, arguments-long (getD (arrays .rights) i 0) (r .right-low)) in
         let a : getD xs k 0 ≡ leftAt arrays i k = argument-at (getD (arrays .lefts) i 0) (r .left-low) k l in
         let b : getD ys k 0 ≡ rightAt arrays i k = argument-at (getD (arrays .rights) i 0) (r .right-low) k used in
         let j : T (joined (hopI .older) (leftAt arrays i k) (rightAt arrays i k)) = subst (λ (y : ℕ). T (joined (hopI .older) (leftAt arrays i k) y)) b (subst (λ (y : ℕ). T (joined (hopI .older) y (getD ys k 0))) a (x .1)) in
         let same : path (hopI .older) (getD xs k 0) (getD ys k 0) ≡ path G (leftAt arrays i k) (rightAt arrays i k) = ap₂ (path (hopI .older)) a b ∙ path-older (leftAt arrays i k) (rightAt arrays i k) (r .walked) j in
-        let in-left = d .lower (getD (arrays .lefts) i 0) (r .left-low) (getD xs k 0) (getD-mem xs k 0 (omega (arith, arguments-long (getD (arrays .lefts) i 0) (r .left-low)))) in
+        let in-left = d .lower (getD (arrays .lefts) i 0) (r .left-low) (getD xs k 0) (getD-mem xs k 0 within) in
         let in-right = d .lower (getD (arrays .rights) i 0) (r .right-low) (getD ys k 0) (getD-mem ys k 0 (x .0)) in
         record {
           left-small = omega (arith, in-left, a, r .left-low, d .small);
           right-small = omega (arith, in-right, b, r .right-low, d .small);
           right-used = used;
           join = older-joined (leftAt arrays i k) (rightAt arrays i k) (r .walked) j;
-          is-parent = subst (λ (π : Path). List·Memᴰ π (parentPaths table hopI)) same (subst (List·Memᴰ (path (hopI .older) (getD xs k 0) (getD ys k 0))) (sym parents-are) (between-at (hopI .older) xs ys k (omega (arith, arguments-long (getD (arrays .lefts) i 0) (r .left-low))) (x .0)));
+          is-parent = subst (λ (π : Path). List·Memᴰ π (parentPaths table hopI)) same (place-parent ts ls table hopI hop-is kind-derived (getD (arrays .lefts) i 0) (getD (arrays .rights) i 0) (r .left-is) (r .right-is) k within);
         }
 
     -- and there is no other parent path
     pub parent-paired : {π : Path} → List·Memᴰ π (parentPaths table hopI) → (k : ℕ) × (k < arityAt arrays i) × (π ≡ path G (leftAt arrays i k) (rightAt arrays i k))
-    unfolding xs ys
     parent-paired {π} m =
         let r = edge-read i h in
-        let q = at-between (hopI .older) xs ys (subst (List·Memᴰ π) parents-are m) in
+        let q = parent-place ts ls table hopI hop-is kind-derived (getD (arrays .lefts) i 0) (getD (arrays .rights) i 0) (r .left-is) (r .right-is) m in
         let l : q .0 < arityAt arrays i = omega (arith, q .1, arguments-long (getD (arrays .lefts) i 0) (r .left-low)) in
-        let x = joined-at (hopI .older) xs ys pairwise (q .0) (q .1) in
+        let x = joined-here (q .0) (q .1) in
         let a = argument-at (getD (arrays .lefts) i 0) (r .left-low) (q .0) l in
         let b = argument-at (getD (arrays .rights) i 0) (r .right-low) (q .0) (omega (arith, x .0, arguments-long (getD (arrays .rights) i 0) (r .right-low))) in
         let j = subst (λ (y : ℕ). T (joined (hopI .older) (leftAt arrays i (q .0)) y)) b (subst (λ (y : ℕ). T (joined (hopI .older) y (getD ys (q .0) 0))) a (x .1)) in
@@ -440,15 +392,12 @@ hop-kind lefts rights inb derived G p {h} of =
 
 -- an edge that is not derived has no parent path
 basic-nothing : (lefts rights : List ℕ) (inb derived : List Bool) (table : List Term) (G : Graph) → Each (EdgeAt lefts rights inb derived) G → (b mode : Bool) (p : Pair) (i : ℕ) → getD derived i false ≡ false → EdgeReached table G b p mode i → ⊥
-unfolding parentPaths parentsOf
-basic-nothing lefts rights inb derived table G d b mode p i e x = go (x .0 .kind) (sym (hop-kind lefts rights inb derived G d (x .1)) ∙ ap (λ (k : ℕ). getD derived k false) (x .2) ∙ e) (x .3 .1)
+basic-nothing lefts rights inb derived table G d b mode p i e x =
+    basic-parents table (x .0) (go (x .0 .kind) (sym (hop-kind lefts rights inb derived G d (x .1)) ∙ ap (λ (k : ℕ). getD derived k false) (x .2) ∙ e)) (x .3 .1)
   where
-    h : Hop
-    h = x .0
-
-    go : (k : EdgeKind) → isDerived k ≡ false → List·Memᴰ (x .3 .0) (parentsOf k (pathsBetween (h .older) (termAt table (h .from) .arguments) (termAt table (h .to) .arguments))) → ⊥
-    go Basic q m = List·Memᴰ·not-nil m
-    go Derived q m = let z : _≡_ {A = ℕ} 0 1 = cc in omega arith
+    go : (k : EdgeKind) → isDerived k ≡ false → k ≡ Basic
+    go Basic q = refl
+    go Derived q = let z : _≡_ {A = ℕ} 0 1 = cc in absurd (omega arith)
 
 module _ (arrays : Drawing) (b : Bool) where
   -- the edges from number i on are read

@@ -14,6 +14,7 @@ use Rattle.closure.specs.Graph.{Path}
 use Rattle.summing.specs.Marks.{Trailed, done, step}
 use Rattle.clauses.specs.Reading.{Stretches, fromFirst, stretches}
 use Rattle.summing.specs.Written.{FirstB, LastB}
+use Rattle.clauses.proofs.Pieces.{fromFirst-none, fromFirst-hop, stretches-none, stretches-hop}
 use Rattle.summing.proofs.Trails.{trailed-forward}
 
 module _ (inB : ℕ → Bool) (inb : List Bool) (stops edges : List ℕ) (hops : ℕ) where
@@ -39,13 +40,15 @@ module _ (inB : ℕ → Bool) (inb : List Bool) (stops edges : List ℕ) (hops :
 
   -- from a stop in B, or from the last stop, the middle stretch ends at r
   pub first-cut : {i : ℕ} {π : Path} (r : ℕ) → i ≤ r → r ≤ hops → ((k : ℕ) → r < k → k ≤ hops → T (not (At k))) → (i < r → T (At r)) → Trailed inb stops edges hops i π → (fromFirst inB π .before ≡ []) × Trailed inb stops edges r i (fromFirst inB π .middle) × Trailed inb stops edges hops r (fromFirst inB π .after)
-  unfolding fromFirst
-  first-cut {i} r h k out found (done e) = let q : i ≡ r = omega (arith, e) in (refl, done q, done (sym q ∙ e))
+  first-cut {i} r h k out found (done e) =
+      let q : i ≡ r = omega (arith, e) in
+      subst (λ (z : Stretches). (z .before ≡ []) × Trailed inb stops edges r i (z .middle) × Trailed inb stops edges hops r (z .after)) (sym (fromFirst-none inB)) (refl, done q, done (sym q ∙ e))
   first-cut {i} r h k out found (step {h = g} {π = π} a b c d x) =
-      ⊎-elim
+      subst Good (sym (fromFirst-hop inB g π))
+      (⊎-elim
       (λ (q : i ≡ r). here (trail-none (step a b c d x) (λ n l m. out n (omega (arith, l, q)) m)) q)
       (λ (l : i < r). there (passed (any (λ y. inB (y .to)) (g ∷ π)) (trail-some (step a b c d x) r l k (found l))) (first-cut r l k out (λ m. found (omega (arith, m))) x))
-      (eq-or-lt-of-le h)
+      (eq-or-lt-of-le h))
     where
       middle : Stretches
       middle = record { before = []; middle = g ∷ fromFirst inB π .middle; after = fromFirst inB π .after }
@@ -64,16 +67,16 @@ module _ (inB : ℕ → Bool) (inb : List Bool) (stops edges : List ℕ) (hops :
 
   -- the stretches of a trail: before the first stop in B, up to the last, and after it
   pub stretches-cut : {i : ℕ} {π : Path} (u lo r : ℕ) → u ≡ getD stops i 0 → i ≤ lo → lo ≤ r → r ≤ hops → ((k : ℕ) → i ≤ k → k < lo → T (not (At k))) → (lo < hops → T (At lo)) → ((k : ℕ) → r < k → k ≤ hops → T (not (At k))) → (lo < r → T (At r)) → Trailed inb stops edges hops i π → Trailed inb stops edges lo i (stretches inB u π .before) × Trailed inb stops edges r lo (stretches inB u π .middle) × Trailed inb stops edges hops r (stretches inB u π .after)
-  unfolding stretches
   stretches-cut {i} u lo r eu h l k before first after last (done e) =
       let q : i ≡ lo = omega (arith, e) in
       let p : lo ≡ r = omega (arith, e) in
-      (done q, done p, done (sym p ∙ sym q ∙ e))
+      subst (λ (z : Stretches). Trailed inb stops edges lo i (z .before) × Trailed inb stops edges r lo (z .middle) × Trailed inb stops edges hops r (z .after)) (sym (stretches-none inB u)) (done q, done p, done (sym p ∙ sym q ∙ e))
   stretches-cut {i} u lo r eu h l k before first after last (step {h = g} {π = π} a b c d x) =
-      ⊎-elim
+      subst Good (sym (stretches-hop inB u g π))
+      (⊎-elim
       (λ (q : i ≡ lo). here q (first-cut r (omega (arith, q)) k after (λ m. last (omega (arith, m, q))) (step a b c d x)))
       (λ (m : i < lo). there m (stretches-cut (g .to) lo r (sym b) m l k (λ n y z. before n (omega (arith, y)) z) first after last x))
-      (eq-or-lt-of-le h)
+      (eq-or-lt-of-le h))
     where
       now : Stretches
       now = fromFirst inB (g ∷ π)

@@ -24,15 +24,16 @@ use Rattle.closure.proofs.Walking.Parents.{path-hop}
 use Rattle.closure.proofs.Walking.Invariant.{SoundGraph}
 use Rattle.closure.proofs.Walking.OnePath.{path-is, one-path, stretch-is}
 use Rattle.closure.proofs.Walking.ParentPaths.{sound-forest}
-use Rattle.clauses.specs.Clauses.{between, Clause, Conclusion, equals, differs, falsum}
+use Rattle.clauses.specs.Clauses.{between, Clause, equals, differs, falsum}
 use Rattle.clauses.specs.Premises.{premises, pathClauses}
 use Rattle.clauses.specs.Reading.{Stretches, stretches, endOf, notMiddle, clausesIn, outerPremises, readA, readBetween}
-use Rattle.clauses.specs.Records.{ascending, concluding, isLast, firstAlone, inOrder, standing, recordsOf, clauseRecords}
+use Rattle.clauses.specs.Records.{ascending, concluding, isLast, firstAlone, inOrder, recordsOf, clauseRecords}
 use Rattle.summing.specs.declared.drawing.Drawing.{Drawing}
 use Rattle.summing.specs.Marks.{Reached, across, along, PairWithin, placeOf, PairMarked, Trailed, done, step}
 use Rattle.summing.specs.Drawn.{DrawnSome}
 use Rattle.summing.specs.Writing.{marked}
 use Rattle.summing.specs.Written.{clauseOf, clauseOut, RecordsPut, Readable, FirstB, LastB, Concluding, notAt, LastPut, Clear, ClausesPut, Asking, AskingSome, sideOf, AllPut, Summarised}
+use Rattle.clauses.proofs.Pieces.{equals-kind, middle-kind, endOf-none, endOf-hop, notMiddle-none, notMiddle-hop, stretches-none, first-none, first-some, records-standing, read-B, read-A}
 use Rattle.clauses.proofs.Meaning.{path-enough}
 use Rattle.clauses.proofs.Stretches.{Divided, stretches-divided}
 use Rattle.clauses.proofs.Interpolation.{lastClause, ReadingA, of-middle, of-outer, of-last, readA-mem, mem-readA}
@@ -84,14 +85,14 @@ module _ (table : List Term) (G : Graph) (cs : List Clause) (from : FromPaths ta
 
   -- the records of one conclusion
   records-of : (p : Pair) → (PairMarked pairs p ↔ Concludes p) → ((marked pairs p ≡ true) × (flatMap (λ c. recordsOf (inOrder n c)) (firstAlone (keep (concluding p) cs)) ≡ clauseOut n table G p)) ⊎ ((marked pairs p ≡ false) × (flatMap (λ c. recordsOf (inOrder n c)) (firstAlone (keep (concluding p) cs)) ≡ []))
-  unfolding flatMap firstAlone clauseOut clauseOf
+  unfolding flatMap clauseOut clauseOf
   records-of p m = first-or-none (keep (concluding p) cs) none some
     where
       g : Clause → List (List ℕ)
       g c = recordsOf (inOrder n c)
 
       none : keep (concluding p) cs ≡ [] → ((marked pairs p ≡ true) × (flatMap g (firstAlone (keep (concluding p) cs)) ≡ clauseOut n table G p)) ⊎ ((marked pairs p ≡ false) × (flatMap g (firstAlone (keep (concluding p) cs)) ≡ []))
-      none e = inr (failed (marked pairs p) (not-T (marked pairs p) (λ t. let r = m .0 t in List·Memᴰ·not-nil (subst (List·Memᴰ (r .0)) e (mem-keep (concluding p) (r .1) (eq-concludes p (r .0 .conclusion) (r .2)))))), ap (λ (l : List Clause). flatMap g (firstAlone l)) e)
+      none e = inr (failed (marked pairs p) (not-T (marked pairs p) (λ t. let r = m .0 t in List·Memᴰ·not-nil (subst (List·Memᴰ (r .0)) e (mem-keep (concluding p) (r .1) (eq-concludes p (r .0 .conclusion) (r .2)))))), ap (λ (l : List Clause). flatMap g (firstAlone l)) e ∙ ap (flatMap g) first-none)
 
       some : (c : Clause) (ds : List Clause) → keep (concluding p) cs ≡ c ∷ ds → ((marked pairs p ≡ true) × (flatMap g (firstAlone (keep (concluding p) cs)) ≡ clauseOut n table G p)) ⊎ ((marked pairs p ≡ false) × (flatMap g (firstAlone (keep (concluding p) cs)) ≡ []))
       some c ds e =
@@ -99,42 +100,33 @@ module _ (table : List Term) (G : Graph) (cs : List Clause) (from : FromPaths ta
           let q = concludes-eq p (c .conclusion) (k .1) in
           let same = ascending-agree n (c .premises) (premises (length G) table (path G (p .left) (p .right))) (λ x. let a = from-paths-premises from (k .0) q x in let b = premisesIn-mean [] [] table G (p .left) (p .right) x in (λ y. b .1 (a .0 y), λ y. a .1 (b .0 y))) in
           let clause : inOrder n c ≡ clauseOf n table G p = λ i. record { premises = same i; conclusion = q i } in
-          inl (passed (marked pairs p) (m .1 (c, k .0, q)), ap (λ (l : List Clause). flatMap g (firstAlone l)) e ∙ append-nil (g c) ∙ ap recordsOf clause)
+          inl (passed (marked pairs p) (m .1 (c, k .0, q)), ap (λ (l : List Clause). flatMap g (firstAlone l)) e ∙ ap (flatMap g) (first-some c ds) ∙ append-nil (g c) ∙ ap recordsOf clause)
 
   -- all records: those of the marked pairs, ascending, and those of a last clause
   pub records-are : ((p : Pair) → PairWithin n p → PairMarked pairs p ↔ Concludes p) → clauseRecords n cs ≡ flatMap (clauseOut n table G) (keep (marked pairs) (pairsBelow n)) ++ flatMap (λ c. recordsOf (inOrder n c)) (firstAlone (keep (λ c. isLast (c .conclusion)) cs))
-  unfolding clauseRecords standing
   records-are marks =
       let g : Clause → List (List ℕ) = λ c. recordsOf (inOrder n c) in
       let first : Pair → List Clause = λ p. firstAlone (keep (concluding p) cs) in
       let last : List Clause = firstAlone (keep (λ c. isLast (c .conclusion)) cs) in
+      records-standing n cs ∙
       flatMap-map recordsOf (inOrder n) (flatMap first (pairsBelow n) ++ last) ∙
       flatMap-append g (flatMap first (pairsBelow n)) last ∙
       ap (λ (l : List (List ℕ)). l ++ flatMap g last) (flatMap-twice g first (pairsBelow n) ∙ flatMap-keep (marked pairs) (clauseOut n table G) (λ p. flatMap g (first p)) (pairsBelow n) (λ p m. records-of p (marks p (pairsBelow-mem n p m))))
 
 -- ---- the conclusions of a disequality's clauses
 
--- an equality is of no last kind
-not-last : (c : Clause) (p : Pair) → c .conclusion ≡ equals p → T (isLast (c .conclusion)) → ⊥
-unfolding isLast
-not-last c p e t = subst (λ (k : Conclusion). T (isLast k)) e t
-
--- "not [middle]" is
-middle-last : (π : Path) → T (isLast (notMiddle π))
-unfolding notMiddle isLast
-middle-last [] = tt
-middle-last (h ∷ π) = tt
-
 module _ (ts : List Term) (ls : List Literal) (table : List Term) (G : Graph) (s : SoundGraph ts ls table G) (u v : ℕ) (j : T (joined G u v)) where
   -- in B: what the path reaches
   pub conclusions-B : (p : Pair) → ((c : Clause) × List·Memᴰ c (readBetween ts ls table G B u v) × (c .conclusion ≡ equals p)) ↔ Reached table false p true (path G u v)
-  unfolding readBetween
-  conclusions-B p = conclusions-reached ts ls table p G s u v j refl (length G) (path-enough G u v)
+  conclusions-B p =
+      subst (λ (cs : List Clause). ((c : Clause) × List·Memᴰ c cs × (c .conclusion ≡ equals p)) ↔ Reached table false p true (path G u v)) (sym (read-B ts ls table G u v))
+      (conclusions-reached ts ls table p G s u v j refl (length G) (path-enough G u v))
 
   -- and no clause is a last one
   pub lasts-B : keep (λ c. isLast (c .conclusion)) (readBetween ts ls table G B u v) ≡ []
-  unfolding readBetween
-  lasts-B = keep-none (λ c. isLast (c .conclusion)) (clausesIn ts ls table G (path G u v)) (λ c m. let o = listed-of-path ts ls table c s (path-is G u v j) m in failed (isLast (c .conclusion)) (not-T (isLast (c .conclusion)) (not-last c (o .of) (o .concluded))))
+  lasts-B =
+      ap (keep (λ c. isLast (c .conclusion))) (read-B ts ls table G u v) ∙
+      keep-none (λ c. isLast (c .conclusion)) (clausesIn ts ls table G (path G u v)) (λ c m. let o = listed-of-path ts ls table c s (path-is G u v j) m in failed (isLast (c .conclusion)) (not-T (isLast (c .conclusion)) (equals-kind (c .conclusion) (o .of) (o .concluded))))
 
   module _ (inB : ℕ → Bool) (z : Stretches) (div : Divided inB G u v (path G u v) z) where
     -- the stretches are a path together
@@ -181,7 +173,7 @@ module _ (ts : List Term) (ls : List Literal) (table : List Term) (G : Graph) (s
         to : (c : Clause) → c .conclusion ≡ equals p → ReadingA ts ls table G z c → Concluded p
         to c e (of-middle m) = inl (middles .0 (c, m, e))
         to c e (of-outer {p = q} k m) = outer-to p q k c m e
-        to c e (of-last q) = absurd (not-last c p e (subst (λ (x : Clause). T (isLast (x .conclusion))) (sym q) (middle-last (z .middle))))
+        to c e (of-last q) = absurd (equals-kind (c .conclusion) p e (subst (λ (x : Clause). T (isLast (x .conclusion))) (sym q) (middle-kind (z .middle))))
 
         from : Concluded p → (c : Clause) × List·Memᴰ c (readA ts ls table G z) × (c .conclusion ≡ equals p)
         from (inl r) = let y = middles .1 r in (y .0, mem-readA ts ls table G z (y .0) (of-middle (y .1)), y .2)
@@ -190,24 +182,23 @@ module _ (ts : List Term) (ls : List Literal) (table : List Term) (G : Graph) (s
 
     -- and the last clause stands alone
     pub lasts-A : firstAlone (keep (λ c. isLast (c .conclusion)) (readA ts ls table G z)) ≡ lastClause ts ls table G z ∷ []
-    unfolding firstAlone
     lasts-A = first-or-none (keep (λ c. isLast (c .conclusion)) (readA ts ls table G z)) none some
       where
         none : keep (λ c. isLast (c .conclusion)) (readA ts ls table G z) ≡ [] → firstAlone (keep (λ c. isLast (c .conclusion)) (readA ts ls table G z)) ≡ lastClause ts ls table G z ∷ []
-        none e = absurd (List·Memᴰ·not-nil (subst (List·Memᴰ (lastClause ts ls table G z)) e (mem-keep (λ (c : Clause). isLast (c .conclusion)) (mem-readA ts ls table G z (lastClause ts ls table G z) (of-last refl)) (middle-last (z .middle)))))
+        none e = absurd (List·Memᴰ·not-nil (subst (List·Memᴰ (lastClause ts ls table G z)) e (mem-keep (λ (c : Clause). isLast (c .conclusion)) (mem-readA ts ls table G z (lastClause ts ls table G z) (of-last refl)) (middle-kind (z .middle)))))
 
         is : (c : Clause) → T (isLast (c .conclusion)) → ReadingA ts ls table G z c → c ≡ lastClause ts ls table G z
-        is c t (of-middle m) = let o = listed-of-path ts ls table c s middle-is m in absurd (not-last c (o .of) (o .concluded) t)
+        is c t (of-middle m) = let o = listed-of-path ts ls table c s middle-is m in absurd (equals-kind (c .conclusion) (o .of) (o .concluded) t)
         is c t (of-outer {p = q} k m) =
             let h = ⊎-elim (λ x. premise-joins ts ls table q G s u (div .first) (walk-joined (div .before-walk)) (one-path G (sound-forest ts ls table G s) before-is) x) (λ x. premise-joins ts ls table q G s (div .last) v (walk-joined (div .after-walk)) (one-path G (sound-forest ts ls table G s) after-is) x) (outerPremises-mean ts ls table G u v z div q .0 k) in
             let o = listed-of-path ts ls table c s (path-is G (q .left) (q .right) h) m in
-            absurd (not-last c (o .of) (o .concluded) t)
+            absurd (equals-kind (c .conclusion) (o .of) (o .concluded) t)
         is c t (of-last e) = e
 
         some : (c : Clause) (ds : List Clause) → keep (λ c. isLast (c .conclusion)) (readA ts ls table G z) ≡ c ∷ ds → firstAlone (keep (λ c. isLast (c .conclusion)) (readA ts ls table G z)) ≡ lastClause ts ls table G z ∷ []
         some c ds e =
             let k = keep-mem (λ (c : Clause). isLast (c .conclusion)) (readA ts ls table G z) (subst (List·Memᴰ c) (sym e) (List·Memᴰ·head refl)) in
-            ap firstAlone e ∙ ap (λ (x : Clause). x ∷ []) (is c (k .1) (readA-mem ts ls table G z c (k .0)))
+            ap firstAlone e ∙ first-some c ds ∙ ap (λ (x : Clause). x ∷ []) (is c (k .1) (readA-mem ts ls table G z c (k .0)))
 
 -- ---- the code's marks and records
 
@@ -218,15 +209,15 @@ nothing-reached table b p e (along {h = h} x m c o r) = List·Memᴰ·not-nil (s
 
 -- a trail leads from its first stop to its last
 trailed-end : (inb : List Bool) (stops edges : List ℕ) (hi : ℕ) {lo : ℕ} {π : Path} → Trailed inb stops edges hi lo π → endOf (getD stops lo 0) π ≡ getD stops hi 0
-unfolding endOf
-trailed-end inb stops edges hi (done e) = ap (λ (n : ℕ). getD stops n 0) e
-trailed-end inb stops edges hi (step {π = π} a b c d t) = ap (λ (n : ℕ). endOf n π) (sym b) ∙ trailed-end inb stops edges hi t
+trailed-end inb stops edges hi {lo} (done e) = endOf-none (getD stops lo 0) ∙ ap (λ (n : ℕ). getD stops n 0) e
+trailed-end inb stops edges hi {lo} (step {h = h} {π = π} a b c d t) = endOf-hop (getD stops lo 0) h π ∙ ap (λ (n : ℕ). endOf n π) (sym b) ∙ trailed-end inb stops edges hi t
 
 -- "not [middle]" off the trail
 not-middle-at : (inb : List Bool) (stops edges : List ℕ) (hi : ℕ) {lo : ℕ} {π : Path} → Trailed inb stops edges hi lo π → notMiddle π ≡ notAt stops lo hi
-unfolding notMiddle notAt endOf
-not-middle-at inb stops edges hi {lo} (done e) = sym (ap (λ (t : Bool). cond t (differs (between (getD stops lo 0) (getD stops hi 0))) falsum) (le-ltb lo hi (omega (arith, e))))
+unfolding notAt
+not-middle-at inb stops edges hi {lo} (done e) = notMiddle-none ∙ sym (ap (λ (t : Bool). cond t (differs (between (getD stops lo 0) (getD stops hi 0))) falsum) (le-ltb lo hi (omega (arith, e))))
 not-middle-at inb stops edges hi {lo} (step {h = h} {π = π} a b c d t) =
+    notMiddle-hop h π ∙
     ap₂ (λ (x y : ℕ). differs (between x y)) (sym a) (ap (λ (n : ℕ). endOf n π) (sym b) ∙ trailed-end inb stops edges hi t) ∙
     sym (ap (λ (t : Bool). cond t (differs (between (getD stops lo 0) (getD stops hi 0))) falsum) (lt-ltb lo hi (trailed-forward inb stops edges hi t)))
 
@@ -241,7 +232,7 @@ module _ (arrays : Drawing) (n : ℕ) (colours : List ℕ) (s t : ℕ) (ts : Lis
     where
       go : (from : FromPaths table G (clausesOf X)) → OfPath table G (r .0) ⊎ (r .0 ≡ from .last) → T (joined G (p .left) (p .right))
       go from (inl o) = let same : o .of ≡ p = cc (o .concluded, r .2) in subst (λ (q : Pair). T (joined G (q .left) (q .right))) same (o .connected)
-      go from (inr e) = absurd (not-last (r .0) p (r .2) (subst (λ (c : Clause). T (isLast (c .conclusion))) (sym e) (from .last-kind)))
+      go from (inr e) = absurd (equals-kind (r .0 .conclusion) p (r .2) (subst (λ (c : Clause). T (isLast (c .conclusion))) (sym e) (from .last-kind)))
 
   module _ (X : Side) (pairs : List Bool) (small : n ≤ 511) (marks : (p : Pair) → PairWithin 511 p → PairMarked pairs p ↔ ((c : Clause) × List·Memᴰ c (clausesOf X) × (c .conclusion ≡ equals p))) where
     -- so the marked pairs are joined
@@ -262,10 +253,11 @@ module _ (arrays : Drawing) (n : ℕ) (colours : List ℕ) (s t : ℕ) (ts : Lis
       (λ y. r .1 (⊎-elim (λ z. z) (λ z. absurd (⊎-elim (nothing-reached table false p refl) (nothing-reached table false p refl) z)) (m .0 y)), λ y. m .1 (inl (r .0 y)))
 
   pub records-B : (pairs rows : List Bool) → n ≤ 511 → Concluding arrays stops edges 0 hops hops pairs rows → clauseRecords n (clausesOf B) ≡ flatMap (clauseOut n table G) (keep (marked pairs) (pairsBelow n))
-  unfolding flatMap firstAlone
+  unfolding flatMap
   records-B pairs rows small c =
       written-are B pairs small (marks-B pairs rows c) ∙
       ap (λ (l : List Clause). flatMap (clauseOut n table G) (keep (marked pairs) (pairsBelow n)) ++ flatMap (λ c. recordsOf (inOrder n c)) (firstAlone l)) (lasts-B ts ls table G (x .drawn .sound) s t (x .join)) ∙
+      ap (λ (l : List Clause). flatMap (clauseOut n table G) (keep (marked pairs) (pairsBelow n)) ++ flatMap (λ c. recordsOf (inOrder n c)) l) first-none ∙
       append-nil (flatMap (clauseOut n table G) (keep (marked pairs) (pairsBelow n)))
 
   -- ---- in A
@@ -294,7 +286,6 @@ module _ (arrays : Drawing) (n : ℕ) (colours : List ℕ) (s t : ℕ) (ts : Lis
 
     -- they are the code's
     pub cut-trailed : Trailed (arrays .inb) stops edges lo 0 (cut .before) × Trailed (arrays .inb) stops edges hi lo (cut .middle) × Trailed (arrays .inb) stops edges hops hi (cut .after)
-    unfolding stretches
     cut-trailed = go (path G s t) (start-at (path G s t) trail (path-walk G s t (x .join))) trail
       where
         go : (π : Path) → (π ≡ []) ⊎ (s ≡ getD stops 0 0) → Trailed (arrays .inb) stops edges hops 0 π → Trailed (arrays .inb) stops edges lo 0 (stretches (colourable ts ls B table) s π .before) × Trailed (arrays .inb) stops edges hi lo (stretches (colourable ts ls B table) s π .middle) × Trailed (arrays .inb) stops edges hops hi (stretches (colourable ts ls B table) s π .after)
@@ -312,7 +303,8 @@ module _ (arrays : Drawing) (n : ℕ) (colours : List ℕ) (s t : ℕ) (ts : Lis
             ends-now π e (step {h = h} a b c d y) = absurd (List·Memᴰ·not-nil (subst (List·Memᴰ h) e (List·Memᴰ·head refl)))
 
             empty-cut : 0 ≡ lo → lo ≡ hi → hi ≡ hops → Trailed (arrays .inb) stops edges lo 0 (stretches (colourable ts ls B table) s [] .before) × Trailed (arrays .inb) stops edges hi lo (stretches (colourable ts ls B table) s [] .middle) × Trailed (arrays .inb) stops edges hops hi (stretches (colourable ts ls B table) s [] .after)
-            empty-cut a b c = (done a, done b, done c)
+            empty-cut a b c =
+                subst (λ (z : Stretches). Trailed (arrays .inb) stops edges lo 0 (z .before) × Trailed (arrays .inb) stops edges hi lo (z .middle) × Trailed (arrays .inb) stops edges hops hi (z .after)) (sym (stretches-none (colourable ts ls B table) s)) (done a, done b, done c)
 
     -- the last clause, as the code writes it
     abbrev pub lastHere : Clause
@@ -320,19 +312,18 @@ module _ (arrays : Drawing) (n : ℕ) (colours : List ℕ) (s t : ℕ) (ts : Lis
 
     -- what is marked is what the clauses conclude
     pub marks-A : (pairs rows : List Bool) → Concluding arrays stops edges lo hi hops pairs rows → (p : Pair) → PairWithin 511 p → PairMarked pairs p ↔ ((c : Clause) × List·Memᴰ c (clausesOf A) × (c .conclusion ≡ equals p))
-    unfolding readBetween
     marks-A pairs rows c p w =
         let q = cut-trailed in
         let m = c .marks ts ls table G (x .drawn) (cut .before) (cut .middle) (cut .after) (λ h k. walk-hop (divided .before-walk) k) (λ h k. walk-hop (divided .middle-walk) k) (λ h k. walk-hop (divided .after-walk) k) (q .0) (q .1) (q .2) p w in
         let r = conclusions-A ts ls table G (x .drawn .sound) s t (x .join) (colourable ts ls B table) cut divided p in
-        (λ y. r .1 (m .0 y), λ y. m .1 (r .0 y))
+        subst (λ (cs : List Clause). PairMarked pairs p ↔ ((c : Clause) × List·Memᴰ c cs × (c .conclusion ≡ equals p))) (sym (read-A ts ls table G s t)) (λ y. r .1 (m .0 y), λ y. m .1 (r .0 y))
 
     pub records-A : (pairs rows : List Bool) → n ≤ 511 → Concluding arrays stops edges lo hi hops pairs rows → clauseRecords n (clausesOf A) ≡ flatMap (clauseOut n table G) (keep (marked pairs) (pairsBelow n)) ++ recordsOf lastHere
-    unfolding flatMap readBetween
+    unfolding flatMap
     records-A pairs rows small c =
         let same : inOrder n (lastClause ts ls table G cut) ≡ lastHere = λ i. record { premises = ascending n (outerPremises ts ls table G cut); conclusion = not-middle-at (arrays .inb) stops edges hi (cut-trailed .1) i } in
         written-are A pairs small (marks-A pairs rows c) ∙
-        ap (λ (l : List Clause). flatMap (clauseOut n table G) (keep (marked pairs) (pairsBelow n)) ++ flatMap (λ c. recordsOf (inOrder n c)) l) (lasts-A ts ls table G (x .drawn .sound) s t (x .join) (colourable ts ls B table) cut divided) ∙
+        ap (λ (l : List Clause). flatMap (clauseOut n table G) (keep (marked pairs) (pairsBelow n)) ++ flatMap (λ c. recordsOf (inOrder n c)) l) (ap (λ (cs : List Clause). firstAlone (keep (λ c. isLast (c .conclusion)) cs)) (read-A ts ls table G s t) ∙ lasts-A ts ls table G (x .drawn .sound) s t (x .join) (colourable ts ls B table) cut divided) ∙
         ap (λ (rs : List (List ℕ)). flatMap (clauseOut n table G) (keep (marked pairs) (pairsBelow n)) ++ rs) (append-nil (recordsOf (inOrder n (lastClause ts ls table G cut))) ∙ ap recordsOf same)
 
     -- the records of the last clause are put behind the others

@@ -1,5 +1,5 @@
 -- A path as the code walks it: colours along a trail, and its factors as the stretches that the code finds.
-use mathlib.Core.Bool.{Bool, true, false, cond, not, Bool·beq}
+use mathlib.Core.Bool.{Bool, true, false, not, Bool·beq}
 use mathlib.Core.List.{List, [], _∷_, _++_, List·Memᴰ, List·Memᴰ·head, List·Memᴰ·tail, List·Memᴰ·not-nil, List·Memᴰ·cases-cons}
 use mathlib.Core.Logic.{_⊎_, inl, inr, ⊎-elim, _↔_}
 use mathlib.Core.Path.{_≡_, refl, sym, ap, ap₂, subst, _∙_}
@@ -9,18 +9,17 @@ use native.Mathlib.Omega.{arith}
 use borrow.Author.Tests.{not-false}
 use lib.ListN.{length, getD}
 use Rattle.tables.specs.Words.{Pair}
-use Rattle.tables.specs.LiteralTable.{sameSide}
 use Rattle.tables.specs.declared.Side.{Side}
 use Rattle.tables.specs.declared.Side.the-variants.{A, B}
-use Rattle.tables.proofs.Words.{below-or-is, passes}
-use Rattle.tables.proofs.Colours.{sameSide-eq}
+use Rattle.tables.proofs.Words.{below-or-is}
 use Rattle.closure.specs.Graph.{Hop, Path}
 use Rattle.clauses.specs.Clauses.{between}
-use Rattle.clauses.specs.Factors.{Factor, alone, longer, inFront, factors}
+use Rattle.clauses.specs.Factors.{Factor, alone, factors}
 use Rattle.clauses.specs.Premises.{endsOf}
 use Rattle.clauses.specs.Reading.{endOf}
 use Rattle.summing.specs.Marks.{isB, EndOf, Trailed, done, step, Within, StretchEnd}
-use Rattle.clauses.proofs.Factors.{Alternate, last-one, other-next, factors-alternate, stretchOf, factors-front}
+use Rattle.clauses.proofs.Factors.{Alternate, stretchOf, factors-front}
+use Rattle.clauses.proofs.Pieces.{alternate-alone, alternate-front, endOf-none, endOf-hop}
 
 -- the colour of the edge at a place of the trail
 abbrev pub colourAt : List Bool → List ℕ → ℕ → Bool
@@ -112,14 +111,13 @@ module _ (inb : List Bool) (stops edges : List ℕ) (hi : ℕ) where
 
   -- each place of a trail cuts it
   pub trailed-cut : {lo : ℕ} {π : Path} (r : ℕ) → lo ≤ r → r ≤ hi → Trailed inb stops edges hi lo π → Cut lo r π
-  unfolding endOf
   trailed-cut {lo} r h k (done e) =
       let q : lo ≡ r = omega (arith, e) in
-      record { front = []; rest = []; whole = refl; ahead = done q; behind = done (sym q ∙ e); places = λ g m. absurd (List·Memᴰ·not-nil m); reaches = ap (λ (n : ℕ). getD stops n 0) q }
+      record { front = []; rest = []; whole = refl; ahead = done q; behind = done (sym q ∙ e); places = λ g m. absurd (List·Memᴰ·not-nil m); reaches = endOf-none (getD stops lo 0) ∙ ap (λ (n : ℕ). getD stops n 0) q }
   trailed-cut {lo} {π} r h k (step {h = g} {π = σ} a b c d t) = go (eq-or-lt-of-le h) (λ l. trailed-cut r l k t)
     where
       go : (lo ≡ r) ⊎ (lo < r) → (suc lo ≤ r → Cut (suc lo) r σ) → Cut lo r (g ∷ σ)
-      go (inl q) ih = record { front = []; rest = g ∷ σ; whole = refl; ahead = done q; behind = subst (λ (n : ℕ). Trailed inb stops edges hi n (g ∷ σ)) q (step a b c d t); places = λ x m. absurd (List·Memᴰ·not-nil m); reaches = ap (λ (n : ℕ). getD stops n 0) q }
+      go (inl q) ih = record { front = []; rest = g ∷ σ; whole = refl; ahead = done q; behind = subst (λ (n : ℕ). Trailed inb stops edges hi n (g ∷ σ)) q (step a b c d t); places = λ x m. absurd (List·Memᴰ·not-nil m); reaches = endOf-none (getD stops lo 0) ∙ ap (λ (n : ℕ). getD stops n 0) q }
       go (inr l) ih =
           let i = ih l in
           let here : At lo r g = record { place = lo; after = omega arith; before = l; number = c; colour = d } in
@@ -131,26 +129,12 @@ module _ (inb : List Bool) (stops edges : List ℕ) (hi : ℕ) where
             ahead = step a b c d (i .ahead);
             behind = i .behind;
             places = λ x m. ⊎-elim (λ e. subst (At lo r) (sym e) here) (λ n. later x (i .places x n)) (List·Memᴰ·cases-cons m);
-            reaches = ap (λ (n : ℕ). endOf n (i .front)) (sym b) ∙ i .reaches;
+            reaches = endOf-hop (getD stops lo 0) g (i .front) ∙ ap (λ (n : ℕ). endOf n (i .front)) (sym b) ∙ i .reaches;
           }
-
-  -- a hop before a path that begins in the other colour stands before factors of the other colour
-  alternate-front : (h g : Hop) (ρ : Path) → (h .colour ≡ g .colour → ⊥) → Alternate (alone h ∷ factors (g ∷ ρ))
-  unfolding factors inFront
-  alternate-front h g ρ d = pick (factors ρ) (factors-alternate (g ∷ ρ))
-    where
-      go : (f : Factor) (fs : List Factor) (b : Bool) → sameSide (g .colour) (f .colour) ≡ b → Alternate (cond b (longer g f ∷ fs) (alone g ∷ f ∷ fs)) → Alternate (alone h ∷ cond b (longer g f ∷ fs) (alone g ∷ f ∷ fs))
-      go f fs true e a = other-next (λ q. d (q ∙ sym (sameSide-eq (g .colour) (f .colour) (passes (sameSide (g .colour) (f .colour)) e)))) a
-      go f fs false e a = other-next d a
-
-      pick : (fs : List Factor) → Alternate (inFront g fs) → Alternate (alone h ∷ inFront g fs)
-      pick [] a = other-next d last-one
-      pick (f ∷ fs) a = go f fs (sameSide (g .colour) (f .colour)) refl a
 
   -- what is behind the stretch of one colour begins in the other
   stretch-alternate : {r : ℕ} {ρ : Path} (h : Hop) (b : Bool) → isB (h .colour) ≡ b → ((r ≡ hi) ⊎ (colourAt inb edges r ≡ b → ⊥)) → Trailed inb stops edges hi r ρ → Alternate (alone h ∷ factors ρ)
-  unfolding factors
-  stretch-alternate h b e l (done q) = last-one
+  stretch-alternate h b e l (done q) = alternate-alone h
   stretch-alternate {r} h b e l (step {h = g} {π = ρ} x y z w t) =
       alternate-front h g ρ
       (λ q. ⊎-elim (λ (m : r ≡ hi). omega (arith, m, trailed-forward t)) (λ n. n (w ∙ ap isB (sym q) ∙ e)) l)

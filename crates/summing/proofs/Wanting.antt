@@ -11,9 +11,9 @@ use lib.ListN.{length, getD, set, length-set}
 use Rattle.tables.specs.Words.{Pair}
 use Rattle.closure.specs.Graph.{Hop, Path}
 use Rattle.clauses.specs.Clauses.{between}
-use Rattle.clauses.specs.Factors.{factors}
 use Rattle.summing.specs.Marks.{isB, EndOf, EdgeOf, PairWithin, PairMarked, Marked, Trailed, done, step, StretchEnd, Covered, Square, PairAdded, FactorsAdded, EdgesAdded, Wanted}
 use Rattle.summing.proofs.Squares.{marked-more}
+use Rattle.clauses.proofs.Pieces.{no-factor}
 use Rattle.summing.proofs.Trails.{colourAt, flags-differ, trailed-forward, first-factor}
 
 -- one hop of a trail read
@@ -60,8 +60,7 @@ module _ (inb : List Bool) (stops edges : List ℕ) (lo hi : ℕ) (b : Bool) whe
 
   -- an empty rest has no factor
   no-end : {i : ℕ} {ρ : Path} (p : Pair) → hi ≤ i → Trailed inb stops edges hi i ρ → EndOf b ρ p → ⊥
-  unfolding factors
-  no-end p h (done q) e = List·Memᴰ·not-nil (e .1)
+  no-end p h (done q) e = no-factor (e .1)
   no-end p h (step x y z w t) e = omega (arith, trailed-forward inb stops edges hi t)
 
   -- all of them

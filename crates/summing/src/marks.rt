@@ -1,9 +1,8 @@
 // Marks along a stretch of a path: which factors' ends are read, and which edges' parent paths.
 use closure::paths::Trail;
-ghost use mathlib.Core.Bool.{Bool};
 ghost use mathlib.Core.Path.{_≡_};
-ghost use Prim.Native.Nat.{ℕ, _+_, _*_, _≤_, _<_};
-ghost use lib.ListN.{length, getD};
+ghost use Prim.Native.Nat.{_+_, _*_, _≤_, _<_};
+ghost use lib.ListN.{length};
 ghost use Rattle.clauses.specs.Clauses.{between};
 ghost use Rattle.summing.specs.Marks.{placeOf, Square, PairAdded, StretchEnd, Within, FactorsAdded, EdgesAdded, Wanted, OuterWanted};
 

@@ -9,7 +9,7 @@ ghost use mathlib.Core.List.{_∷_, []};
 ghost use mathlib.Core.Path.{_≡_};
 ghost use Prim.Native.Nat.{_+_, _*_, _^_, _≤_, _<_};
 ghost use lib.ListN.{length};
-ghost use Rattle.tables.specs.Words.{Pair, pair, keep, pairsBelow};
+ghost use Rattle.tables.specs.Words.{pair, keep, pairsBelow};
 ghost use Rattle.summing.specs.Marks.{PairMarked, Covered, Square, Within};
 ghost use Rattle.summing.specs.Drawn.{DrawnSome};
 ghost use Rattle.clauses.specs.Records.{conclusionRecord};
