@@ -1,21 +1,22 @@
 -- Small laws of factors, ends and readings. The layers above use these and open no definition.
 use mathlib.Core.Bool.{Bool, true, false, cond}
 use mathlib.Core.List.{List, [], _∷_, _++_, map, flatMap, List·Memᴰ, List·Memᴰ·not-nil}
+use mathlib.Core.Logic.{_↔_}
 use mathlib.Core.Path.{_≡_, refl, sym, subst, _∙_}
 use Prim.Native.Nat.{ℕ}
 use lib.Dec.{T}
-use Rattle.tables.specs.Words.{Pair, any, keep, pairsBelow}
+use Rattle.tables.specs.Words.{Pair, pair, samePair, any, keep, pairsBelow}
 use Rattle.tables.specs.Terms.{Term}
 use Rattle.tables.specs.LiteralTable.{Literal, sameSide}
 use Rattle.tables.specs.declared.Side.the-variants.{A, B}
 use Rattle.tables.specs.Colours.{colourable}
-use Rattle.tables.proofs.Words.{passes}
+use Rattle.tables.proofs.Words.{passes, some-any, any-some, samePair-eq, samePair-self}
 use Rattle.tables.proofs.Colours.{sameSide-eq}
 use Rattle.closure.specs.Graph.{Graph, Hop, Path, path}
 use Rattle.clauses.specs.Clauses.{Clause, Conclusion, between, equals, differs, falsum}
 use Rattle.clauses.specs.Factors.{Factor, alone, longer, inFront, factors}
 use Rattle.clauses.specs.Reading.{Stretches, fromFirst, stretches, endOf, notMiddle, clausesIn, readA, readBetween}
-use Rattle.clauses.specs.Records.{concluding, isLast, firstAlone, inOrder, standing, recordsOf, clauseRecords}
+use Rattle.clauses.specs.Records.{amongPairs, ascending, concluding, isLast, firstAlone, inOrder, standing, clauseRecord, conclusionRecord, recordsOf, clauseRecords}
 use Rattle.clauses.proofs.Factors.{Alternate, last-one, other-next, factors-alternate}
 
 -- ---- factors
@@ -117,6 +118,39 @@ first-some c cs = refl
 pub records-standing : (n : ℕ) (cs : List Clause) → clauseRecords n cs ≡ flatMap recordsOf (map (inOrder n) (flatMap (λ p. firstAlone (keep (concluding p) cs)) (pairsBelow n) ++ firstAlone (keep (λ c. isLast (c .conclusion)) cs)))
 unfolding clauseRecords standing
 records-standing n cs = refl
+
+-- a clause's records: its premises, and its conclusion
+pub records-clause : (c : Clause) → recordsOf c ≡ map (clauseRecord 1) (c .premises) ++ (conclusionRecord (c .conclusion) ∷ [])
+unfolding recordsOf
+records-clause c = refl
+
+-- an equality as a conclusion is of kind 2
+pub record-equals : (p : Pair) → conclusionRecord (equals p) ≡ clauseRecord 2 p
+unfolding conclusionRecord
+record-equals p = refl
+
+-- a disequality is of kind 3
+pub record-differs : (p : Pair) → conclusionRecord (differs p) ≡ clauseRecord 3 p
+unfolding conclusionRecord
+record-differs p = refl
+
+-- false is of kind 4
+pub record-falsum : conclusionRecord falsum ≡ clauseRecord 4 (pair 0 0)
+unfolding conclusionRecord
+record-falsum = refl
+
+-- pairs in order are those of all pairs, ascending, that are among them
+pub ascending-kept : (n : ℕ) (ps : List Pair) → ascending n ps ≡ keep (amongPairs ps) (pairsBelow n)
+unfolding ascending
+ascending-kept n ps = refl
+
+-- and the test says so
+pub among-mem : (ps : List Pair) (p : Pair) → T (amongPairs ps p) ↔ List·Memᴰ p ps
+unfolding amongPairs
+among-mem ps p = (
+  λ x. let s = any-some (λ q. samePair p q) ps x in subst (λ (q : Pair). List·Memᴰ q ps) (sym (samePair-eq p (s .0) (s .2))) (s .1),
+  λ m. some-any (λ q. samePair p q) m (samePair-self p),
+)
 
 -- ---- the two readings
 

@@ -10,7 +10,7 @@ use lib.ListN.{length, getD, replicate, length-append}
 use Rattle.tables.specs.Words.{Pair, pair, below, keep, pairsBelow}
 use Rattle.tables.specs.Terms.{Term}
 use Rattle.tables.specs.LiteralTable.{Literal}
-use Rattle.tables.proofs.Words.{passes, same-test, some-any, any-some, samePair-eq, samePair-self, pairsBelow-mem}
+use Rattle.tables.proofs.Words.{passes, same-test, pairsBelow-mem}
 use Rattle.closure.specs.Graph.{Graph, Hop, Path, path}
 use Rattle.closure.specs.Walks.{HopOf}
 use Rattle.closure.proofs.Walking.Walks.{older-fewer}
@@ -18,13 +18,14 @@ use Rattle.closure.proofs.Walking.OnePath.{path-is}
 use Rattle.closure.proofs.Walking.Parents.{path-hop}
 use Rattle.clauses.specs.Clauses.{between, Conclusion, differs, falsum}
 use Rattle.clauses.specs.Premises.{premises, Premise}
-use Rattle.clauses.specs.Records.{amongPairs, ascending, clauseRecord, conclusionRecord, recordsOf}
+use Rattle.clauses.specs.Records.{amongPairs, ascending, clauseRecord, conclusionRecord}
 use Rattle.summing.specs.declared.drawing.Drawing.{Drawing}
 use Rattle.summing.specs.Marks.{Reached, PairWithin, PairMarked, Marked, Covered, Owed, Trailed, Wanted, OuterWanted}
 use Rattle.summing.specs.Drawn.{Drawn, Settled}
 use Rattle.summing.specs.Writing.{putRecord, putRecords, marked, rowPairs, PremisesOut, AllOut}
 use Rattle.summing.specs.Written.{clauseOf, clauseOut, RecordsPut, Clear, Readable, ReadableSome, ClausesPut, Over, Concluding, notAt, LastPut}
 use Rattle.summing.proofs.Reached.{reached-premise, premise-reached, wants-owed, owed-kept, reached-owed}
+use Rattle.clauses.proofs.Pieces.{records-clause, record-equals, record-differs, record-falsum, ascending-kept, among-mem}
 use Rattle.clauses.proofs.OneClause.{premise-within, premisesIn-mean}
 use Rattle.clauses.proofs.Records.{record-length, conclusionRecord-kind}
 use Rattle.summing.proofs.Squares.{between-below, between-above}
@@ -86,10 +87,10 @@ records-none at out = record { count = omega arith; bytes = refl }
 
 -- the marked pairs in order are the ascending list of what is marked
 pub marked-ascending : (n : ℕ) (found : List Bool) (ps : List Pair) → n ≤ 511 → ((p : Pair) → PairWithin 511 p → PairMarked found p ↔ List·Memᴰ p ps) → keep (marked found) (pairsBelow n) ≡ ascending n ps
-unfolding ascending amongPairs
 marked-ascending n found ps small f =
     keep-agree (marked found) (amongPairs ps) (pairsBelow n)
-    (λ p m. let w = pairsBelow-mem n p m in let g = f p (w .0, omega (arith, w .1)) in same-test (marked found p) (amongPairs ps p) (λ x. some-any (λ q. Rattle.tables.specs.Words.samePair p q) (g .0 x) (samePair-self p)) (λ x. let s = any-some (λ q. Rattle.tables.specs.Words.samePair p q) ps x in g .1 (subst (λ (q : Pair). List·Memᴰ q ps) (sym (samePair-eq p (s .0) (s .2))) (s .1))))
+    (λ p m. let w = pairsBelow-mem n p m in let g = f p (w .0, omega (arith, w .1)) in let a = among-mem ps p in same-test (marked found p) (amongPairs ps p) (λ x. a .1 (g .0 x)) (λ x. g .1 (a .0 x))) ∙
+    sym (ascending-kept n ps)
 
 -- ---- one clause
 
@@ -112,7 +113,7 @@ module _ (arrays : Drawing) (n u v : ℕ) (less : u < v) (within : v < n) (small
 
   -- one clause written: its premises, and the pair
   pub clause-put : ReadableSome arrays n Here → (stops edges : List ℕ) (hops : ℕ) → ((ts : List Term) (ls : List Literal) (table : List Term) (G : Graph) → ReadableHere ts ls table G → Trailed (arrays .inb) stops edges hops 0 (path G u v)) → (found rows found₁ rows₁ inside₁ under₁ found₂ rows₂ inside₂ under₂ found₃ : List Bool) (at r : ℕ) (out out₁ : List ℕ) → Clear found → Wanted (arrays .inb) stops edges 0 hops true true found rows (replicate 510 false) (replicate 510 false) found₁ rows₁ inside₁ under₁ → Settled arrays true found₁ rows₁ inside₁ under₁ found₂ rows₂ inside₂ under₂ → AllOut n at found₂ out r found₃ out₁ → (out₂ : List ℕ) → out₂ ≡ putRecord r (clauseRecord 2 (pair u v)) out₁ → ClausesPut arrays n Here (pair u v ∷ []) 1 at out (r + 1) found₃ out₂
-  unfolding clauseOut clauseOf recordsOf conclusionRecord flatMap
+  unfolding clauseOut clauseOf flatMap
   clause-put some stops edges hops trail found rows found₁ rows₁ inside₁ under₁ found₂ rows₂ inside₂ under₂ found₃ at r out out₁ c w s a out₂ e₂ =
       let marks : (ts : List Term) (ls : List Literal) (table : List Term) (G : Graph) → ReadableHere ts ls table G → (p : Pair) → PairWithin 511 p → PairMarked found₂ p ↔ Premise table p (path G u v) = λ ts ls table G x p k. premises-marked ts ls table G x stops edges hops (trail ts ls table G x) found rows found₁ rows₁ inside₁ under₁ found₂ rows₂ inside₂ under₂ c w s p k in
       subst (ClausesPut arrays n Here (pair u v ∷ []) 1 at out (r + 1) found₃) (sym e₂)
@@ -121,7 +122,7 @@ module _ (arrays : Drawing) (n u v : ℕ) (less : u < v) (within : v < n) (small
         same = put-length r (clauseRecord 2 (pair u v)) out₁ (record-length 2 (pair u v)) ∙ premises-length (keep (marked found₂) (pairsBelow n)) at out r out₁ (a .premises);
         sized = a .sized;
         clear = λ p k m. let y = a .left-over p k .0 m in let x = some .4 in let z = premise-within (some .0) (some .1) (some .2) p (x .drawn .sound) (path-is (some .3) u v (x .connected (pair u v) (less, within) refl)) (marks (some .0) (some .1) (some .2) (some .3) x p k .0 (y .0)) in omega (arith, y .1, z .1, x .terms);
-        written = λ ts ls table G x. let e = marked-ascending n found₂ (premises (length G) table (path G u v)) small (λ p k. let f = marks ts ls table G x p k in let g = premisesIn-mean ts ls table G u v p in (λ y. g .1 (f .0 y), λ y. f .1 (g .0 y))) in let q = records-more (map (clauseRecord 1) (keep (marked found₂) (pairsBelow n))) (clauseRecord 2 (pair u v)) at out r out₁ (premises-put (keep (marked found₂) (pairsBelow n)) at out r out₁ (a .premises)) in subst (λ (rs : List (List ℕ)). RecordsPut rs at out (r + 1) (putRecord r (clauseRecord 2 (pair u v)) out₁)) (sym (append-nil (map (clauseRecord 1) (ascending n (premises (length G) table (path G u v))) ++ (clauseRecord 2 (pair u v) ∷ [])))) (subst (λ (ps : List Pair). RecordsPut (map (clauseRecord 1) ps ++ (clauseRecord 2 (pair u v) ∷ [])) at out (r + 1) (putRecord r (clauseRecord 2 (pair u v)) out₁)) e q);
+        written = λ ts ls table G x. let e = marked-ascending n found₂ (premises (length G) table (path G u v)) small (λ p k. let f = marks ts ls table G x p k in let g = premisesIn-mean ts ls table G u v p in (λ y. g .1 (f .0 y), λ y. f .1 (g .0 y))) in let q = records-more (map (clauseRecord 1) (keep (marked found₂) (pairsBelow n))) (clauseRecord 2 (pair u v)) at out r out₁ (premises-put (keep (marked found₂) (pairsBelow n)) at out r out₁ (a .premises)) in subst (λ (rs : List (List ℕ)). RecordsPut rs at out (r + 1) (putRecord r (clauseRecord 2 (pair u v)) out₁)) (sym (append-nil (clauseOut n table G (pair u v)) ∙ records-clause (clauseOf n table G (pair u v)) ∙ ap (λ (x : List ℕ). map (clauseRecord 1) (ascending n (premises (length G) table (path G u v))) ++ (x ∷ [])) (record-equals (pair u v)))) (subst (λ (ps : List Pair). RecordsPut (map (clauseRecord 1) ps ++ (clauseRecord 2 (pair u v) ∷ [])) at out (r + 1) (putRecord r (clauseRecord 2 (pair u v)) out₁)) e q);
       })
 
 -- ---- clauses one behind the other
@@ -255,20 +256,20 @@ module _ (arrays : Drawing) (n : ℕ) where
 
 -- the record of "not [middle]"
 pub last-below : (stops : List ℕ) (lo hi : ℕ) → lo < hi → getD stops lo 0 < getD stops hi 0 → conclusionRecord (notAt stops lo hi) ≡ clauseRecord 3 (pair (getD stops lo 0) (getD stops hi 0))
-unfolding notAt conclusionRecord
+unfolding notAt
 last-below stops lo hi h l =
-    ap (λ (t : Bool). conclusionRecord (cond t (differs (between (getD stops lo 0) (getD stops hi 0))) falsum)) (lt-ltb lo hi h) ∙ ap (clauseRecord 3) (between-below (getD stops lo 0) (getD stops hi 0) l)
+    ap (λ (t : Bool). conclusionRecord (cond t (differs (between (getD stops lo 0) (getD stops hi 0))) falsum)) (lt-ltb lo hi h) ∙ record-differs (between (getD stops lo 0) (getD stops hi 0)) ∙ ap (clauseRecord 3) (between-below (getD stops lo 0) (getD stops hi 0) l)
 
 -- with the second end lower
 pub last-above : (stops : List ℕ) (lo hi : ℕ) → lo < hi → getD stops hi 0 ≤ getD stops lo 0 → conclusionRecord (notAt stops lo hi) ≡ clauseRecord 3 (pair (getD stops hi 0) (getD stops lo 0))
-unfolding notAt conclusionRecord
+unfolding notAt
 last-above stops lo hi h l =
-    ap (λ (t : Bool). conclusionRecord (cond t (differs (between (getD stops lo 0) (getD stops hi 0))) falsum)) (lt-ltb lo hi h) ∙ ap (clauseRecord 3) (between-above (getD stops lo 0) (getD stops hi 0) l)
+    ap (λ (t : Bool). conclusionRecord (cond t (differs (between (getD stops lo 0) (getD stops hi 0))) falsum)) (lt-ltb lo hi h) ∙ record-differs (between (getD stops lo 0) (getD stops hi 0)) ∙ ap (clauseRecord 3) (between-above (getD stops lo 0) (getD stops hi 0) l)
 
 -- and where the middle stretch is empty
 pub last-empty : (stops : List ℕ) (lo hi : ℕ) → hi ≤ lo → conclusionRecord (notAt stops lo hi) ≡ clauseRecord 4 (pair 0 0)
-unfolding notAt conclusionRecord
-last-empty stops lo hi h = ap (λ (t : Bool). conclusionRecord (cond t (differs (between (getD stops lo 0) (getD stops hi 0))) falsum)) (le-ltb lo hi h)
+unfolding notAt
+last-empty stops lo hi h = ap (λ (t : Bool). conclusionRecord (cond t (differs (between (getD stops lo 0) (getD stops hi 0))) falsum)) (le-ltb lo hi h) ∙ record-falsum
 
 module _ (arrays : Drawing) (stops edges : List ℕ) (lo hi hops : ℕ) where
   -- the marks of three stretches, settled
@@ -292,10 +293,9 @@ module _ (arrays : Drawing) (stops edges : List ℕ) (lo hi hops : ℕ) where
 
     -- they are written, and then the last conclusion
     pub last-put : (f₄ : List Bool) (at r : ℕ) (out out₁ out₂ : List ℕ) → AllOut n at f₃ out r f₄ out₁ → out₂ ≡ putRecord r (conclusionRecord (notAt stops lo hi)) out₁ → LastPut arrays n stops edges lo hi hops at out (r + 1) f₄ out₂
-    unfolding recordsOf
     last-put f₄ at r out out₁ out₂ a e₂ =
         record {
-          written = λ ts ls table G d before after ob oa tb ta qs f. let marks : (p : Pair) → PairWithin 511 p → PairMarked f₃ p ↔ List·Memᴰ p qs = λ p v. let x = outer-marked ts ls table G d before after ob oa tb ta p v in (λ k. f p .1 (x .0 k), λ k. x .1 (f p .0 k)) in (subst (λ (o : List ℕ). RecordsPut (map (clauseRecord 1) (ascending n qs) ++ (conclusionRecord (notAt stops lo hi) ∷ [])) at out (r + 1) o) (sym e₂) (records-more (map (clauseRecord 1) (ascending n qs)) (conclusionRecord (notAt stops lo hi)) at out r out₁ (subst (λ (ps : List Pair). RecordsPut (map (clauseRecord 1) ps) at out r out₁) (marked-ascending n f₃ qs small marks) (premises-put (keep (marked f₃) (pairsBelow n)) at out r out₁ (a .premises)))), λ low p k m. let y = a .left-over p k .0 m in omega (arith, y .1, low p (marks p k .0 (y .0))));
+          written = λ ts ls table G d before after ob oa tb ta qs f. let marks : (p : Pair) → PairWithin 511 p → PairMarked f₃ p ↔ List·Memᴰ p qs = λ p v. let x = outer-marked ts ls table G d before after ob oa tb ta p v in (λ k. f p .1 (x .0 k), λ k. x .1 (f p .0 k)) in (subst (λ (rs : List (List ℕ)). RecordsPut rs at out (r + 1) out₂) (sym (records-clause (record { premises = ascending n qs; conclusion = notAt stops lo hi }))) (subst (λ (o : List ℕ). RecordsPut (map (clauseRecord 1) (ascending n qs) ++ (conclusionRecord (notAt stops lo hi) ∷ [])) at out (r + 1) o) (sym e₂) (records-more (map (clauseRecord 1) (ascending n qs)) (conclusionRecord (notAt stops lo hi)) at out r out₁ (subst (λ (ps : List Pair). RecordsPut (map (clauseRecord 1) ps) at out r out₁) (marked-ascending n f₃ qs small marks) (premises-put (keep (marked f₃) (pairsBelow n)) at out r out₁ (a .premises))))), λ low p k m. let y = a .left-over p k .0 m in omega (arith, y .1, low p (marks p k .0 (y .0))));
           same = ap length e₂ ∙ put-length r (conclusionRecord (notAt stops lo hi)) out₁ (conclusion-long (notAt stops lo hi)) ∙ premises-length (keep (marked f₃) (pairsBelow n)) at out r out₁ (a .premises);
           sized = a .sized;
         }

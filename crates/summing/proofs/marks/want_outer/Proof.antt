@@ -10,7 +10,7 @@ want-requires c κs = (within-part _ _ _ _ _ (omega arith) (omega (arith, c .bef
 want-requires-2 : tie.Need-want-requires-2
 want-requires-2 c κs =
     let w = c .before .before .before .before .want .ensures in
-    (within-part _ _ _ _ _ (c .before .before .before .before .before .before .before .before .before .pre .0 .2) (omega arith) (c .before .before .before .before .before .before .before .before .before .pre .0 .0), (w .square, (w .inside-sized, w .under-sized)))
+    (within-part _ _ _ _ _ (omega (arith, c .before .before .before .before .before .before .before .before .before .pre .0 .1, c .before .before .before .before .before .before .before .before .before .pre .0 .2)) (omega arith) (c .before .before .before .before .before .before .before .before .before .pre .0 .0), (w .square, (w .inside-sized, w .under-sized)))
 
 returns : tie.Need-returns
 returns c = record { pairs₁ = _; rows₁ = _; inside₁ = _; under₁ = _; before = c .before .before .before .before .before .want .ensures; after = c .want2 .ensures }

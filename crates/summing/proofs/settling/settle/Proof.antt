@@ -39,13 +39,13 @@ loop-less : tie.Need-loop-less Inv-loop μ-loop
 loop-less c = omega (arith, c .before .before .before .before .before .before .before .before .before .before .before .before .before .before .before .before .before .before .before .before .loop-test .taken)
 
 loop-again : tie.Need-loop-again Inv-loop μ-loop
-loop-again c = settle-asked _ _ _ _ _ _ _ _ _ _ _ (c .before .before .before .before .before .before .before .before .before .before .before .before .before .before .before .before .before .before .before .before .loop-test .taken) (c .before .before .before .before .before .before .before .before .before .before .before .before .before .before .before .before .before .before .before .before .before .loop .inv) _ _ _ _ (sym (c .before .before .before .before .before .before .before .before .before .before .before .before .before .before .before .before .asked .ensures) ∙ c .before .before .before .before .before .before .before .before .before .before .before .before .before .before .before .if1 .taken) (c .settle-edge .ensures)
+loop-again c = settle-asked _ _ _ _ _ _ _ _ _ _ _ (omega (arith, c .before .before .before .before .before .before .before .before .before .before .before .before .before .before .before .before .before .before .before .before .loop-test .taken)) (c .before .before .before .before .before .before .before .before .before .before .before .before .before .before .before .before .before .before .before .before .before .loop .inv) _ _ _ _ (sym (c .before .before .before .before .before .before .before .before .before .before .before .before .before .before .before .before .asked .ensures) ∙ c .before .before .before .before .before .before .before .before .before .before .before .before .before .before .before .if1 .taken) (c .settle-edge .ensures)
 
 loop-less-2 : tie.Need-loop-less-2 Inv-loop μ-loop
 loop-less-2 c = omega (arith, c .before .before .before .before .before .loop-test .taken)
 
 loop-again-2 : tie.Need-loop-again-2 Inv-loop μ-loop
-loop-again-2 c = settle-left _ _ _ _ _ _ _ _ _ _ _ (c .before .before .before .before .before .loop-test .taken) (c .before .before .before .before .before .before .loop .inv) (sym (c .before .asked .ensures) ∙ c .if1 .left)
+loop-again-2 c = settle-left _ _ _ _ _ _ _ _ _ _ _ (omega (arith, c .before .before .before .before .before .loop-test .taken)) (c .before .before .before .before .before .before .loop .inv) (sym (c .before .asked .ensures) ∙ c .if1 .left)
 
 returns : tie.Need-returns Inv-loop μ-loop
 returns c = settle-all _ _ _ _ _ _ _ _ _ _ _ (c .loop-test .left) (c .before .loop .inv)

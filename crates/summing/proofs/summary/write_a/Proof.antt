@@ -16,7 +16,7 @@ first-b-requires : tie.Need-first-b-requires
 first-b-requires c κs = sides-read _ _ _ _ _ (c .before .before .before .before .before .before .pre .1) (c .before .before .before .before .trail .result) (c .before .before .before .before .trail .ensures) _ _ _ _ (c .before .before .before .before .before .before .pre .0 .4) .within
 
 last-b-requires : tie.Need-last-b-requires
-last-b-requires c κs = (sides-read _ _ _ _ _ (c .before .before .before .before .before .before .before .before .before .pre .1) (c .before .before .before .before .before .before .before .trail .result) (c .before .before .before .before .before .before .before .trail .ensures) _ _ _ _ (c .before .before .before .before .before .before .before .before .before .pre .0 .4) .within, c .before .before .first-b .ensures .within)
+last-b-requires c κs = (sides-read _ _ _ _ _ (c .before .before .before .before .before .before .before .before .before .pre .1) (c .before .before .before .before .before .before .before .trail .result) (c .before .before .before .before .before .before .before .trail .ensures) _ _ _ _ (c .before .before .before .before .before .before .before .before .before .pre .0 .4) .within, omega (arith, c .before .before .first-b .ensures .within))
 
 conclude-requires : tie.Need-conclude-requires
 conclude-requires c κs =
