@@ -13,15 +13,15 @@ use Rattle.tables.specs.Terms.{Term, termAt}
 use Rattle.tables.specs.LiteralTable.{Literal}
 use Rattle.tables.proofs.Words.{below-or-is}
 use Rattle.closure.specs.declared.Edge.{Edge}
-use Rattle.closure.specs.declared.Row.{Row}
-use Rattle.closure.specs.declared.state.State.{State as Arrays}
+use Rattle.running.specs.declared.Row.{Row}
+use Rattle.running.specs.declared.state.State.{State as Arrays}
 use Rattle.closure.specs.Steps.{State, tableOf}
-use Rattle.closure.specs.Shown.{Shows}
-use Rattle.closure.specs.Keys.{noRow}
+use Rattle.running.specs.Shown.{Shows}
+use Rattle.running.specs.Keys.{noRow}
 use Rattle.closure.specs.Forests.{Each}
-use Rattle.closure.specs.Layout.{noEdge, lastFirst, newestFirst}
-use Rattle.closure.proofs.InArrays.Showing.{shown-arity, shown-row}
-use Rattle.closure.proofs.InArrays.Numbered.{lastFirst-length}
+use Rattle.graphs.specs.Layout.{noEdge, lastFirst, newestFirst}
+use Rattle.running.proofs.Showing.{shown-arity, shown-row}
+use Rattle.graphs.proofs.Numbered.{lastFirst-length}
 use Rattle.summing.specs.Marks.{isB}
 use Rattle.summing.specs.Drawn.{isDerived, EdgeAt}
 use Rattle.engine.specs.Ending.{FlatRows}

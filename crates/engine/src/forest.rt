@@ -1,13 +1,13 @@
 // The last graph and its terms, laid out as plain arrays for the clause layer.
 
 use closure::EdgeKind;
-use closure::Row;
-use closure::graph::Graph;
+use graphs::graph::Graph;
+use running::Row;
 use tables::Side;
 ghost use mathlib.Core.Path.{_≡_};
 ghost use Prim.Native.Nat.{_≤_};
 ghost use Rattle.closure.specs.Forests.{Each};
-ghost use Rattle.closure.specs.Layout.{edgesOf};
+ghost use Rattle.graphs.specs.Layout.{edgesOf};
 ghost use Rattle.summing.specs.Marks.{isB};
 ghost use Rattle.summing.specs.Drawn.{isDerived, EdgeAt};
 ghost use Rattle.engine.specs.Ending.{FlatRows};

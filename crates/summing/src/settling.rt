@@ -1,6 +1,6 @@
 // The parent paths of marked edges, read from the newest edge to the oldest: parent paths have older edges only, so one pass is enough.
 use super::marks;
-use closure::paths;
+use graphs::paths;
 ghost use mathlib.Core.Bool.{true};
 ghost use mathlib.Core.Path.{_≡_};
 ghost use Prim.Native.Nat.{_<_};

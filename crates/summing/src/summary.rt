@@ -2,7 +2,7 @@
 use super::marks;
 use super::settling;
 use super::writing;
-use closure::paths;
+use graphs::paths;
 ghost use mathlib.Core.List.{_∷_, []};
 ghost use mathlib.Core.Path.{_≡_};
 ghost use Prim.Native.Nat.{_+_, _*_, _^_, _≤_, _<_};

@@ -3,7 +3,7 @@ use mathlib.Core.Path.{_≡_, refl}
 use Prim.Native.Nat.{_-_, _≤_}
 use native.Mathlib.Omega.{arith}
 use borrow.Author.Needs.{needs}
-use Rattle.closure.specs.Layout.{edgesOf}
+use Rattle.graphs.specs.Layout.{edgesOf}
 use Rattle.engine.proofs.Layouts.{Laid, laid-more, laid-all, laid-none}
 use Rattle.engine.proofs.forest.laid_out.Statement.{statement}
 use Rattle.engine.proofs.forest.laid_out.Tie as tie

@@ -1,8 +1,8 @@
 -- `engine::summaries::clause_records` meets its contract: the arrays that it lays out hold the last graph, and the clause layer reads them.
 use native.Mathlib.Omega.{arith}
 use lib.ListN.{getD}
-use Rattle.closure.proofs.InArrays.BasicSteps.{literals-fit}
-use Rattle.closure.proofs.InArrays.OnRuns.{can-root}
+use Rattle.running.proofs.BasicSteps.{literals-fit}
+use Rattle.running.proofs.OnRuns.{can-root}
 use Rattle.closure.specs.Steps.{tableOf}
 use Rattle.summing.specs.Written.{Asking}
 use Rattle.engine.specs.Ending.{Decides, termsIn, literalsIn}
