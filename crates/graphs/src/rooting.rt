@@ -19,21 +19,6 @@ pub struct Rooting {
     pub reached: usize,
 }
 
-impl Rooting {
-    // A vertex is reached by an edge from a neighbour that was.
-    fn reach(mut self, v: u16, from: u16, edge: u16) -> Rooting
-        requires { ⌜ (v < 511) × (from < 511) × (getD (self .rank) from 0 ≤ 511) × (self .reached ≤ 511) ⌝ }
-        ensures { λ r. ⌜ r ≡ grown self v from edge ⌝ }
-    {
-        let rank = self.rank[from as usize];
-        self.toward[v as usize] = from;
-        self.by[v as usize] = edge;
-        self.rank[v as usize] = rank + 1;
-        self.reached += 1;
-        self
-    }
-}
-
 // The roots alone: the terms that are their own labels.
 fn roots(labels: &[u16; 511]) -> Rooting
     ensures { λ r. ⌜ ((G : Rattle.closure.specs.Graph.Graph) → now (labels .entry) ≡ map (label G) (below 511) → Growing G r) ⌝ }
@@ -56,7 +41,8 @@ fn roots(labels: &[u16; 511]) -> Rooting
     }
 }
 
-// One pass over the edges.
+// One pass over the edges: where one end is reached and the other is not, the other is reached by this edge. The arrays are written in place: a copy
+// of them for each vertex would be most of the time.
 fn pass(graph: Graph, start: Rooting) -> Rooting
     requires { ⌜ (graph .count ≤ 510) × EndsBelow 511 (edgesOf graph) × Growing (edgesOf graph) start ⌝ }
     ensures { λ r. ⌜ Growing (edgesOf graph) r × (start .reached ≤ r .reached) × (r .reached ≡ start .reached → Closed (edgesOf graph) (r .rank)) ⌝ }
@@ -74,11 +60,17 @@ fn pass(graph: Graph, start: Rooting) -> Rooting
         i += 1;
         if l == 0 {
             if k != 0 {
-                r = r.reach(left, right, edge);
+                r.toward[left as usize] = right;
+                r.by[left as usize] = edge;
+                r.rank[left as usize] = k + 1;
+                r.reached += 1;
             }
         } else {
             if k == 0 {
-                r = r.reach(right, left, edge);
+                r.toward[right as usize] = left;
+                r.by[right as usize] = edge;
+                r.rank[right as usize] = l + 1;
+                r.reached += 1;
             }
         }
     }

@@ -64,14 +64,44 @@ cast-edge c = omega arith
 add-i : tie.Need-add-i Inv-loop μ-loop
 add-i c = omega arith
 
-reach-requires : tie.Need-reach-requires Inv-loop μ-loop
-reach-requires c κs = let i = c .before .before .before .before .before in (here i .0, here i .1, low i _ (here i .1), reached-within (i .before .loop .inv .1 .growing))
+cast-r : tie.Need-cast-r Inv-loop μ-loop
+cast-r c = omega (arith, here (c .before .before .before .before .before) .0)
+
+mul-r : tie.Need-mul-r Inv-loop μ-loop
+mul-r c = omega (arith, here (c .before .before .before .before .before) .0)
+
+element-write-r : tie.Need-element-write-r Inv-loop μ-loop
+element-write-r c = here (c .before .before .before .before .before) .0
+
+cast-r-2 : tie.Need-cast-r-2 Inv-loop μ-loop
+cast-r-2 c = omega (arith, here (c .before .before .before .before .before) .0)
+
+mul-r-2 : tie.Need-mul-r-2 Inv-loop μ-loop
+mul-r-2 c = omega (arith, here (c .before .before .before .before .before) .0)
+
+element-write-r-2 : tie.Need-element-write-r-2 Inv-loop μ-loop
+element-write-r-2 c = here (c .before .before .before .before .before) .0
+
+add-r : tie.Need-add-r Inv-loop μ-loop
+add-r c = omega (arith, low (c .before .before .before .before .before) _ (here (c .before .before .before .before .before) .1))
+
+cast-r-3 : tie.Need-cast-r-3 Inv-loop μ-loop
+cast-r-3 c = omega (arith, here (c .before .before .before .before .before) .0)
+
+mul-r-3 : tie.Need-mul-r-3 Inv-loop μ-loop
+mul-r-3 c = omega (arith, here (c .before .before .before .before .before) .0)
+
+element-write-r-3 : tie.Need-element-write-r-3 Inv-loop μ-loop
+element-write-r-3 c = here (c .before .before .before .before .before) .0
+
+add-r-2 : tie.Need-add-r-2 Inv-loop μ-loop
+add-r-2 c = omega (arith, reached-within (c .before .before .before .before .before .before .loop .inv .1 .growing))
 
 loop-less : tie.Need-loop-less Inv-loop μ-loop
 loop-less c = omega arith
 
 loop-again : tie.Need-loop-again Inv-loop μ-loop
-loop-again c = let i = c .before .before .before .before .before .before in (omega (arith, i .loop-test .taken), subst (λ (r : Rooting). Passing (newestFirst (i .before .before .args .t1 .count) (i .before .before .args .t1 .edges)) (i .before .before .args .t1 .edges) (i .before .before .args .start) r (i .before .loop .i + 1)) (sym (c .reach .ensures)) (reach-left (i .before .before .args .t1 .edges) (i .before .before .args .t1 .count) (i .before .loop .inv .1) (i .loop-test .taken) (ends i) (c .before .before .if1 .taken) (c .before .if2 .taken)))
+loop-again c = let i = c .before .before .before .before .before in (omega (arith, i .loop-test .taken), reach-left (i .before .before .args .t1 .edges) (i .before .before .args .t1 .count) (i .before .loop .inv .1) (i .loop-test .taken) (ends i) (c .before .if1 .taken) (c .if2 .taken))
 
 loop-less-2 : tie.Need-loop-less-2 Inv-loop μ-loop
 loop-less-2 c = omega arith
@@ -79,14 +109,44 @@ loop-less-2 c = omega arith
 loop-again-2 : tie.Need-loop-again-2 Inv-loop μ-loop
 loop-again-2 c = let i = c .before .before .before .before .before in (omega (arith, i .loop-test .taken), reach-none (i .before .before .args .t1 .edges) (i .before .before .args .t1 .count) (i .before .loop .inv .1) (i .loop-test .taken) (ends i) (λ k. omega (arith, c .before .if1 .taken)) (λ k. omega (arith, c .if2 .left)))
 
-reach-requires-2 : tie.Need-reach-requires-2 Inv-loop μ-loop
-reach-requires-2 c κs = let i = c .before .before .before .before .before in (here i .1, here i .0, low i _ (here i .0), reached-within (i .before .loop .inv .1 .growing))
+cast-r-4 : tie.Need-cast-r-4 Inv-loop μ-loop
+cast-r-4 c = omega (arith, here (c .before .before .before .before .before) .1)
+
+mul-r-4 : tie.Need-mul-r-4 Inv-loop μ-loop
+mul-r-4 c = omega (arith, here (c .before .before .before .before .before) .1)
+
+element-write-r-4 : tie.Need-element-write-r-4 Inv-loop μ-loop
+element-write-r-4 c = here (c .before .before .before .before .before) .1
+
+cast-r-5 : tie.Need-cast-r-5 Inv-loop μ-loop
+cast-r-5 c = omega (arith, here (c .before .before .before .before .before) .1)
+
+mul-r-5 : tie.Need-mul-r-5 Inv-loop μ-loop
+mul-r-5 c = omega (arith, here (c .before .before .before .before .before) .1)
+
+element-write-r-5 : tie.Need-element-write-r-5 Inv-loop μ-loop
+element-write-r-5 c = here (c .before .before .before .before .before) .1
+
+add-r-3 : tie.Need-add-r-3 Inv-loop μ-loop
+add-r-3 c = omega (arith, low (c .before .before .before .before .before) _ (here (c .before .before .before .before .before) .0))
+
+cast-r-6 : tie.Need-cast-r-6 Inv-loop μ-loop
+cast-r-6 c = omega (arith, here (c .before .before .before .before .before) .1)
+
+mul-r-6 : tie.Need-mul-r-6 Inv-loop μ-loop
+mul-r-6 c = omega (arith, here (c .before .before .before .before .before) .1)
+
+element-write-r-6 : tie.Need-element-write-r-6 Inv-loop μ-loop
+element-write-r-6 c = here (c .before .before .before .before .before) .1
+
+add-r-4 : tie.Need-add-r-4 Inv-loop μ-loop
+add-r-4 c = omega (arith, reached-within (c .before .before .before .before .before .before .loop .inv .1 .growing))
 
 loop-less-3 : tie.Need-loop-less-3 Inv-loop μ-loop
 loop-less-3 c = omega arith
 
 loop-again-3 : tie.Need-loop-again-3 Inv-loop μ-loop
-loop-again-3 c = let i = c .before .before .before .before .before .before in (omega (arith, i .loop-test .taken), subst (λ (r : Rooting). Passing (newestFirst (i .before .before .args .t1 .count) (i .before .before .args .t1 .edges)) (i .before .before .args .t1 .edges) (i .before .before .args .start) r (i .before .loop .i + 1)) (sym (c .reach2 .ensures)) (reach-right (i .before .before .args .t1 .edges) (i .before .before .args .t1 .count) (i .before .loop .inv .1) (i .loop-test .taken) (ends i) (c .before .before .if1 .left) (c .before .if3 .taken)))
+loop-again-3 c = let i = c .before .before .before .before .before in (omega (arith, i .loop-test .taken), reach-right (i .before .before .args .t1 .edges) (i .before .before .args .t1 .count) (i .before .loop .inv .1) (i .loop-test .taken) (ends i) (c .before .if1 .left) (c .if3 .taken))
 
 loop-less-4 : tie.Need-loop-less-4 Inv-loop μ-loop
 loop-less-4 c = omega arith
@@ -118,12 +178,32 @@ pass-spec =
     element-copy-out-k
     cast-edge
     add-i
-    reach-requires
+    cast-r
+    mul-r
+    element-write-r
+    cast-r-2
+    mul-r-2
+    element-write-r-2
+    add-r
+    cast-r-3
+    mul-r-3
+    element-write-r-3
+    add-r-2
     loop-less
     loop-again
     loop-less-2
     loop-again-2
-    reach-requires-2
+    cast-r-4
+    mul-r-4
+    element-write-r-4
+    cast-r-5
+    mul-r-5
+    element-write-r-5
+    add-r-3
+    cast-r-6
+    mul-r-6
+    element-write-r-6
+    add-r-4
     loop-less-3
     loop-again-3
     loop-less-4
