@@ -90,10 +90,11 @@ module _ (t : Tables) (s : Arrays) (d : ℕ) (w : Decides t s d) (bs : Buffers) 
   unfolding inconsistent
   added-short h = sym (ap (λ (a : Bool). tested a (tooShort clauses (bs .clauses))) (short terms (bs .added) (omega (arith, terms-length))))
 
-  -- they have, and the clause records have none
-  pub clauses-short : 16 * (s .terms - t .terms) ≤ length (bs .added) → (count : ℕ) → count ≡ length (recordsFor w) → length (bs .clauses) / 8 < count → refused bs 7 2 ≡ inconsistent bs d (map termBytes ms) (recordsFor w)
+  -- they have, and the clause records have none, and stay as they are
+  pub clauses-short : 16 * (s .terms - t .terms) ≤ length (bs .added) → (count : ℕ) → count ≡ length (recordsFor w) → length (bs .clauses) / 8 < count → (out : List ℕ) → out ≡ bs .clauses → refused (record { partition = bs .partition; added = bs .added; clauses = out }) 7 2 ≡ inconsistent bs d (map termBytes ms) (recordsFor w)
   unfolding inconsistent
-  clauses-short g count e h =
+  clauses-short g count e h out kept =
+      ap (λ (x : List ℕ). refused (record { partition = bs .partition; added = bs .added; clauses = x }) 7 2) kept ∙
       sym (ap₂ tested (room terms (bs .added) (omega (arith, terms-length))) (short clauses (bs .clauses) (omega (arith, records-length))))
 
   -- both have room, and are written

@@ -25,11 +25,12 @@ use Rattle.running.proofs.OnRuns.{on-run-sound, arity-small, can-root}
 use Rattle.closure.proofs.Running.OwnRun.{own-run}
 use Rattle.running.proofs.OwnTurns.{checks}
 use Rattle.running.proofs.Showing.{shown-arity, shown-colour}
-use Rattle.summing.specs.Drawn.{EdgeAt, Drawn}
+use Rattle.summing.specs.declared.drawing.Drawing.{Drawing}
+use Rattle.summing.specs.Drawn.{EdgeAt, Drawn, drawing}
 use Rattle.clauses.specs.Clauses.{Clause}
 use Rattle.clauses.specs.Reading.{literalAt, summary, readBetween}
 use Rattle.clauses.specs.Records.{clauseRecords}
-use Rattle.summing.specs.Written.{Asking, RecordsPut, sideOf}
+use Rattle.summing.specs.Written.{Asking, AllPut, sideOf}
 use Rattle.clauses.proofs.Records.{clauseBytes, clauseBytes-length}
 use Rattle.summing.proofs.Summing.{records-written}
 use Rattle.engine.specs.declared.forest.Columns.{Columns}
@@ -54,7 +55,7 @@ on-run {t} w =
     }
 
 -- the arrays that are laid out of a state hold its graph and its terms
-pub drawn-of : {t : Tables} {s : Arrays} (w : Ends t s) (args toward by rank : List ℕ) (c : Columns) → FlatRows (s .rows) args → RootedBy (edgesOf (s .graph)) toward by rank → Each (EdgeAt (c .lefts) (c .rights) (c .inb) (c .derived)) (edgesOf (s .graph)) → Drawn args (s .arities) toward by rank (c .lefts) (c .rights) (c .inb) (c .derived) (s .graph .count) (termsIn (w .from)) (literalsIn (w .from)) (tableOf (termsIn (w .from)) (w .state)) (w .state .graph)
+pub drawn-of : {t : Tables} {s : Arrays} (w : Ends t s) (args toward by rank : List ℕ) (c : Columns) → FlatRows (s .rows) args → RootedBy (edgesOf (s .graph)) toward by rank → Each (EdgeAt (c .lefts) (c .rights) (c .inb) (c .derived)) (edgesOf (s .graph)) → Drawn (drawing args (s .arities) toward by rank (c .lefts) (c .rights) (c .inb) (c .derived) (s .graph .count)) (termsIn (w .from)) (literalsIn (w .from)) (tableOf (termsIn (w .from)) (w .state)) (w .state .graph)
 drawn-of {t} {s} w args toward by rank c flat rooted laid =
     let ts = termsIn (w .from) in
     let ls = literalsIn (w .from) in
@@ -71,13 +72,14 @@ drawn-of {t} {s} w args toward by rank c flat rooted laid =
       edges = subst (Each (EdgeAt (c .lefts) (c .rights) (c .inb) (c .derived))) (w .shows .edges) laid;
     }
 
--- records that are put from the start of a buffer are written over it
-written-over : (n : ℕ) (cs : List Clause) (out : List ℕ) (r : ℕ) (out′ : List ℕ) → RecordsPut (clauseRecords n cs) 0 out r out′ → Written (clauseRecords n cs) out r out′
+-- records that are put where they have room are written over the buffer there
+written-over : (n : ℕ) (cs : List Clause) (out : List ℕ) (r : ℕ) (out′ : List ℕ) → AllPut (clauseRecords n cs) out r out′ → Written (clauseRecords n cs) out r out′
 unfolding writtenOver
 written-over n cs out r out′ put =
     record {
-      counted = omega (arith, put .count);
-      bytes = λ h. records-written n cs out r out′ h put .1 ∙ ap (λ (k : ℕ). clauseBytes n cs ++ drop k out) (sym (clauseBytes-length n cs));
+      counted = put .count;
+      bytes = λ h. records-written n cs out r out′ h put ∙ ap (λ (k : ℕ). clauseBytes n cs ++ drop k out) (sym (clauseBytes-length n cs));
+      kept = put .kept;
     }
 
 -- the side by the flag
@@ -113,8 +115,8 @@ module _ (t : Tables) (s : Arrays) (d : ℕ) (w : Decides t s d) where
   )
 
   -- the clause layer is asked for its records
-  pub asking-of : (args toward by rank : List ℕ) (c : Columns) → Drawn args (s .arities) toward by rank (c .lefts) (c .rights) (c .inb) (c .derived) (s .graph .count) ts ls table G → Asking args (s .arities) toward by rank (c .lefts) (c .rights) (c .inb) (c .derived) (s .graph .count) (s .terms) (s .colours) (getD (t .lefts) d 0) (getD (t .rights) d 0) ts ls table G
-  asking-of args toward by rank c drawn =
+  pub asking-of : (arrays : Drawing) → Drawn arrays ts ls table G → Asking arrays (s .terms) (s .colours) (getD (t .lefts) d 0) (getD (t .rights) d 0) ts ls table G
+  asking-of arrays drawn =
       record {
         drawn = drawn;
         terms = sym (w .ends .shows .terms);
@@ -134,7 +136,7 @@ module _ (t : Tables) (s : Arrays) (d : ℕ) (w : Decides t s d) where
       λ i. clauseRecords (w .ends .shows .terms i) (readBetween ts ls table G (side i) (left i) (right i))
 
   -- so they are counted, and written where they have room
-  pub written-of : (out : List ℕ) (r : ℕ) (out′ : List ℕ) → RecordsPut (clauseRecords (s .terms) (readBetween ts ls table G (sideOf (eqb (getD (t .sides) d 0) 1)) (getD (t .lefts) d 0) (getD (t .rights) d 0))) 0 out r out′ → Written (recordsFor w) out r out′
+  pub written-of : (out : List ℕ) (r : ℕ) (out′ : List ℕ) → AllPut (clauseRecords (s .terms) (readBetween ts ls table G (sideOf (eqb (getD (t .sides) d 0) 1)) (getD (t .lefts) d 0) (getD (t .rights) d 0))) out r out′ → Written (recordsFor w) out r out′
   written-of out r out′ put =
       let n = s .terms in
       let cs = readBetween ts ls table G (sideOf (eqb (getD (t .sides) d 0) 1)) (getD (t .lefts) d 0) (getD (t .rights) d 0) in

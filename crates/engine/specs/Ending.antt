@@ -12,7 +12,7 @@ use Rattle.tables.specs.Terms.{Term}
 use Rattle.tables.specs.TermTable.{termsOf}
 use Rattle.tables.specs.LiteralTable.{Literal, literalsOf}
 use Rattle.tables.specs.declared.Tables.{Tables}
-use Rattle.closure.specs.Steps.{State}
+use Rattle.closure.specs.Steps.{State, tableOf}
 use Rattle.closure.specs.OwnRun.{ownRun}
 use Rattle.running.specs.Shown.{Shows}
 use Rattle.running.specs.Keys.{noRow}
@@ -20,6 +20,8 @@ use Rattle.running.specs.declared.Row.{Row}
 use Rattle.running.specs.Opening.{ReadFrom}
 use Rattle.running.specs.declared.state.State.{State as Arrays}
 use Rattle.clauses.specs.Reading.{literalAt, critical}
+use Rattle.summing.specs.declared.drawing.Drawing.{Drawing}
+use Rattle.summing.specs.Drawn.{Drawn}
 use Rattle.demands.specs.Buffers.{writtenOver}
 use Rattle.demands.specs.Call.{recordsIn}
 
@@ -37,6 +39,14 @@ pub record Ends (t : Tables) (s : Arrays) : Type 0 where
   pub last : ownRun (termsIn from) (literalsIn from) ≡ some state
   pub shows : Shows (termsIn from) (literalsIn from) state s
 
+-- they show it, for some tables
+abbrev pub EndsSome : Arrays → Type 0
+EndsSome s = (t : Tables) × Ends t s
+
+-- the last graph is drawn for the clause layer, whatever tables led to it
+abbrev pub DrawnLast : Arrays → Drawing → Type 0
+DrawnLast s arrays = (t : Tables) (w : Ends t s) → Drawn arrays (termsIn (w .from)) (literalsIn (w .from)) (tableOf (termsIn (w .from)) (w .state)) (w .state .graph)
+
 -- and d is the critical disequality there
 pub record Decides (t : Tables) (s : Arrays) (d : ℕ) : Type 0 where
   pub ends : Ends t s
@@ -46,10 +56,11 @@ pub record Decides (t : Tables) (s : Arrays) (d : ℕ) : Type 0 where
 abbrev pub recordsFor : {t : Tables} {s : Arrays} {d : ℕ} → Decides t s d → List (List ℕ)
 recordsFor {d = d} w = recordsIn (termsIn (w .ends .from)) (literalsIn (w .ends .from)) (w .ends .state) (literalAt (literalsIn (w .ends .from)) d)
 
--- records are counted, and written where they have room
+-- records are counted, and written where all of them have room; else the buffer stays as it is
 pub record Written (rs : List (List ℕ)) (buffer : List ℕ) (count : ℕ) (out : List ℕ) : Type 0 where
   pub counted : count ≡ length rs
   pub bytes : 8 * length rs ≤ length buffer → out ≡ writtenOver (flatMap (λ r. r) rs) buffer
+  pub kept : length buffer < 8 * length rs → out ≡ buffer
 
 -- a class number by the marks of the terms in use and the labels of all terms, among the first n terms
 unfoldable pub classBy : List Bool → List ℕ → ℕ → ℕ → ℕ

@@ -49,16 +49,15 @@ fn inconsistent(t: Tables, st: State, d: usize, added: &mut [u8], clauses: &mut 
             place: 1,
         };
     }
-    let mut none = [0u8; 1];
-    let records = summaries::clause_records(t, st, d, &mut none);
-    if clauses.len() / 8 < records {
+    let room = clauses.len() / 8;
+    let records = summaries::clause_records(t, st, d, clauses);
+    if room < records {
         return Answer::Refused {
             number: 7,
             place: 2,
         };
     }
     added::write_added(t, st, added);
-    summaries::clause_records(t, st, d, clauses);
     Answer::Inconsistent {
         disequality: d,
         added: count,

@@ -3,14 +3,15 @@
 use super::forest;
 use graphs::rooting;
 use running::state::State;
+use summing::drawing::Drawing;
 use summing::summary;
 use tables::Tables;
-ghost use Rattle.engine.specs.Ending.{Decides, recordsFor, Written};
+ghost use Rattle.engine.specs.Ending.{EndsSome, DrawnLast, Decides, recordsFor, Written};
 
-// Counts the records, and writes them where they have room: what a first call on no room counts is what a second call writes.
-pub fn clause_records(t: Tables, st: State, d: usize, out: &mut [u8]) -> usize
-    requires { ⌜ Decides t st d ⌝ }
-    ensures { λ r. ⌜ ((w : Decides t st d) → Written (recordsFor w) (now (out .entry)) r (now (out .exit))) ⌝ }
+// The last graph and its terms, as the clause layer is handed them.
+fn drawn(st: State) -> Drawing
+    requires { ⌜ EndsSome st ⌝ }
+    ensures { λ r. ⌜ DrawnLast st r ⌝ }
 {
     let graph = st.graph;
     let labels = st.labels;
@@ -26,28 +27,31 @@ pub fn clause_records(t: Tables, st: State, d: usize, out: &mut [u8]) -> usize
     let rows = st.rows;
     let args = forest::flat(rows);
     let arities = st.arities;
-    let colours = st.colours;
     let count = graph.count;
+    Drawing {
+        args,
+        arities,
+        toward,
+        by,
+        rank,
+        lefts,
+        rights,
+        inb,
+        derived,
+        count,
+    }
+}
+
+// Counts the records, and writes them where all of them have room.
+pub fn clause_records(t: Tables, st: State, d: usize, out: &mut [u8]) -> usize
+    requires { ⌜ Decides t st d ⌝ }
+    ensures { λ r. ⌜ ((w : Decides t st d) → Written (recordsFor w) (now (out .entry)) r (now (out .exit))) ⌝ }
+{
+    let arrays = drawn(st);
+    let colours = st.colours;
     let vertices = st.terms as u16;
     let left = t.lefts[d];
     let right = t.rights[d];
     let ina = t.sides[d] == 1;
-    summary::write(
-        &args,
-        &arities,
-        &toward,
-        &by,
-        &rank,
-        &lefts,
-        &rights,
-        &inb,
-        &derived,
-        count,
-        vertices,
-        &colours,
-        ina,
-        left,
-        right,
-        out,
-    )
+    summary::write(arrays, vertices, &colours, ina, left, right, out)
 }

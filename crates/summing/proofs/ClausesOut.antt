@@ -19,10 +19,11 @@ use Rattle.closure.proofs.Walking.Parents.{path-hop}
 use Rattle.clauses.specs.Clauses.{between, Conclusion, differs, falsum}
 use Rattle.clauses.specs.Premises.{premises, Premise}
 use Rattle.clauses.specs.Records.{amongPairs, ascending, clauseRecord, conclusionRecord, recordsOf}
-use Rattle.summing.specs.Marks.{Reached, PairWithin, PairMarked, Marked, Covered, Owed, Trailed, Within, Wanted}
+use Rattle.summing.specs.declared.drawing.Drawing.{Drawing}
+use Rattle.summing.specs.Marks.{Reached, PairWithin, PairMarked, Marked, Covered, Owed, Trailed, Within, Wanted, OuterWanted}
 use Rattle.summing.specs.Drawn.{Drawn, Settled}
 use Rattle.summing.specs.Writing.{putRecord, putRecords, marked, rowPairs, PremisesOut, AllOut}
-use Rattle.summing.specs.Written.{clauseOf, clauseOut, RecordsPut, Clear, Readable, ReadableSome, ClausesPut, Concluding, notAt, LastPut}
+use Rattle.summing.specs.Written.{clauseOf, clauseOut, RecordsPut, Clear, Readable, ReadableSome, ClausesPut, Over, Concluding, notAt, LastPut}
 use Rattle.summing.proofs.Reached.{reached-premise, premise-reached, wants-owed, owed-kept, reached-owed}
 use Rattle.clauses.proofs.OneClause.{premise-within, premisesIn-mean}
 use Rattle.clauses.proofs.Records.{record-length, conclusionRecord-kind}
@@ -42,16 +43,16 @@ none-marked (suc n) (suc k) m = none-marked n k m
 pub none-covered : (pairs : List Bool) → Clear pairs → (rows : List Bool) → Covered pairs rows
 none-covered pairs c rows p w m = absurd (c p w m)
 
-module _ (args arities toward by rank lefts rights : List ℕ) (inb derived : List Bool) (count : ℕ) (ts : List Term) (ls : List Literal) (table : List Term) (G : Graph) (d : Drawn args arities toward by rank lefts rights inb derived count ts ls table G) (b : Bool) where
+module _ (arrays : Drawing) (ts : List Term) (ls : List Literal) (table : List Term) (G : Graph) (d : Drawn arrays ts ls table G) (b : Bool) where
   -- what is owed after a stretch of the graph is read: what was, and what the stretch reaches
-  pub owed-wanted : (mode : Bool) (π : Path) → ((h : Hop) → List·Memᴰ h π → HopOf h G) → (stops edges : List ℕ) (lo hi : ℕ) (pairs rows inside under pairs′ rows′ inside′ under′ : List Bool) → Trailed inb stops edges hi lo π → Wanted inb stops edges lo hi b mode pairs rows inside under pairs′ rows′ inside′ under′ → (p : Pair) → PairWithin 511 p → Owed table G b pairs′ inside′ under′ count p ↔ (Owed table G b pairs inside under count p ⊎ Reached table b p mode π)
+  pub owed-wanted : (mode : Bool) (π : Path) → ((h : Hop) → List·Memᴰ h π → HopOf h G) → (stops edges : List ℕ) (lo hi : ℕ) (pairs rows inside under pairs′ rows′ inside′ under′ : List Bool) → Trailed (arrays .inb) stops edges hi lo π → Wanted (arrays .inb) stops edges lo hi b mode pairs rows inside under pairs′ rows′ inside′ under′ → (p : Pair) → PairWithin 511 p → Owed table G b pairs′ inside′ under′ (arrays .count) p ↔ (Owed table G b pairs inside under (arrays .count) p ⊎ Reached table b p mode π)
   owed-wanted mode π over stops edges lo hi pairs rows inside under pairs′ rows′ inside′ under′ t w p v =
       let wants = w .wants π t in
-      let low : (h : Hop) → List·Memᴰ h π → length (h .older) < count = λ h m. omega (arith, older-fewer (over h m), d .counted) in
-      (λ y. wants-owed ts ls table G (d .sound) b p mode π over pairs inside under pairs′ inside′ under′ count v wants y, λ y. ⊎-elim (λ z. owed-kept ts ls table G (d .sound) b p mode π over pairs inside under pairs′ inside′ under′ count v wants z) (λ z. reached-owed ts ls table G (d .sound) b p mode π over pairs inside under pairs′ inside′ under′ count v wants low z) y)
+      let low : (h : Hop) → List·Memᴰ h π → length (h .older) < arrays .count = λ h m. omega (arith, older-fewer (over h m), d .counted) in
+      (λ y. wants-owed ts ls table G (d .sound) b p mode π over pairs inside under pairs′ inside′ under′ (arrays .count) v wants y, λ y. ⊎-elim (λ z. owed-kept ts ls table G (d .sound) b p mode π over pairs inside under pairs′ inside′ under′ (arrays .count) v wants z) (λ z. reached-owed ts ls table G (d .sound) b p mode π over pairs inside under pairs′ inside′ under′ (arrays .count) v wants low z) y)
 
   -- at first nothing is owed
-  pub none-owed : (pairs : List Bool) → Clear pairs → (p : Pair) → PairWithin 511 p → Owed table G b pairs (replicate 510 false) (replicate 510 false) count p → ⊥
+  pub none-owed : (pairs : List Bool) → Clear pairs → (p : Pair) → PairWithin 511 p → Owed table G b pairs (replicate 510 false) (replicate 510 false) (arrays .count) p → ⊥
   none-owed pairs c p w (inl m) = c p w m
   none-owed pairs c p w (inr (k, l, inl (m, x))) = none-marked 510 k m
   none-owed pairs c p w (inr (k, l, inr (m, x))) = none-marked 510 k m
@@ -92,29 +93,29 @@ marked-ascending n found ps small f =
 
 -- ---- one clause
 
-module _ (args arities toward by rank lefts rights : List ℕ) (inb derived : List Bool) (count n u v : ℕ) (less : u < v) (within : v < n) (small : n ≤ 511) where
+module _ (arrays : Drawing) (n u v : ℕ) (less : u < v) (within : v < n) (small : n ≤ 511) where
   -- this pair
   abbrev Here : Pair → Type 0
   Here p = p ≡ pair u v
 
   -- it can be read
   abbrev ReadableHere : List Term → List Literal → List Term → Graph → Type 0
-  ReadableHere ts ls table G = Readable args arities toward by rank lefts rights inb derived count n Here ts ls table G
+  ReadableHere ts ls table G = Readable arrays n Here ts ls table G
 
   -- the premises of the path between u and v are what is marked
-  pub premises-marked : (ts : List Term) (ls : List Literal) (table : List Term) (G : Graph) → ReadableHere ts ls table G → (stops edges : List ℕ) (hops : ℕ) → Trailed inb stops edges hops 0 (path G u v) → (found rows found₁ rows₁ inside₁ under₁ found₂ rows₂ inside₂ under₂ : List Bool) → Clear found → Wanted inb stops edges 0 hops true true found rows (replicate 510 false) (replicate 510 false) found₁ rows₁ inside₁ under₁ → Settled args arities toward by rank lefts rights inb derived count true found₁ rows₁ inside₁ under₁ found₂ rows₂ inside₂ under₂ → (p : Pair) → PairWithin 511 p → PairMarked found₂ p ↔ Premise table p (path G u v)
+  pub premises-marked : (ts : List Term) (ls : List Literal) (table : List Term) (G : Graph) → ReadableHere ts ls table G → (stops edges : List ℕ) (hops : ℕ) → Trailed (arrays .inb) stops edges hops 0 (path G u v) → (found rows found₁ rows₁ inside₁ under₁ found₂ rows₂ inside₂ under₂ : List Bool) → Clear found → Wanted (arrays .inb) stops edges 0 hops true true found rows (replicate 510 false) (replicate 510 false) found₁ rows₁ inside₁ under₁ → Settled arrays true found₁ rows₁ inside₁ under₁ found₂ rows₂ inside₂ under₂ → (p : Pair) → PairWithin 511 p → PairMarked found₂ p ↔ Premise table p (path G u v)
   premises-marked ts ls table G x stops edges hops t found rows found₁ rows₁ inside₁ under₁ found₂ rows₂ inside₂ under₂ c w s p k =
       let d = x .drawn in
       let m = s .marks ts ls table G d p k in
-      let o = owed-wanted args arities toward by rank lefts rights inb derived count ts ls table G d true true (path G u v) (λ h y. path-hop G u v y) stops edges 0 hops found rows (replicate 510 false) (replicate 510 false) found₁ rows₁ inside₁ under₁ t w p k in
-      (λ y. ⊎-elim (λ z. absurd (none-owed args arities toward by rank lefts rights inb derived count ts ls table G d true found c p k z)) (λ z. reached-premise table p z) (o .0 (m .0 y)), λ y. m .1 (o .1 (inr (premise-reached table p y))))
+      let o = owed-wanted arrays ts ls table G d true true (path G u v) (λ h y. path-hop G u v y) stops edges 0 hops found rows (replicate 510 false) (replicate 510 false) found₁ rows₁ inside₁ under₁ t w p k in
+      (λ y. ⊎-elim (λ z. absurd (none-owed arrays ts ls table G d true found c p k z)) (λ z. reached-premise table p z) (o .0 (m .0 y)), λ y. m .1 (o .1 (inr (premise-reached table p y))))
 
   -- one clause written: its premises, and the pair
-  pub clause-put : ReadableSome args arities toward by rank lefts rights inb derived count n Here → (stops edges : List ℕ) (hops : ℕ) → ((ts : List Term) (ls : List Literal) (table : List Term) (G : Graph) → ReadableHere ts ls table G → Trailed inb stops edges hops 0 (path G u v)) → (found rows found₁ rows₁ inside₁ under₁ found₂ rows₂ inside₂ under₂ found₃ : List Bool) (at r : ℕ) (out out₁ : List ℕ) → Clear found → Wanted inb stops edges 0 hops true true found rows (replicate 510 false) (replicate 510 false) found₁ rows₁ inside₁ under₁ → Settled args arities toward by rank lefts rights inb derived count true found₁ rows₁ inside₁ under₁ found₂ rows₂ inside₂ under₂ → AllOut n at found₂ out r found₃ out₁ → (out₂ : List ℕ) → out₂ ≡ putRecord r (clauseRecord 2 (pair u v)) out₁ → ClausesPut args arities toward by rank lefts rights inb derived count n Here (pair u v ∷ []) 1 at out (r + 1) found₃ out₂
+  pub clause-put : ReadableSome arrays n Here → (stops edges : List ℕ) (hops : ℕ) → ((ts : List Term) (ls : List Literal) (table : List Term) (G : Graph) → ReadableHere ts ls table G → Trailed (arrays .inb) stops edges hops 0 (path G u v)) → (found rows found₁ rows₁ inside₁ under₁ found₂ rows₂ inside₂ under₂ found₃ : List Bool) (at r : ℕ) (out out₁ : List ℕ) → Clear found → Wanted (arrays .inb) stops edges 0 hops true true found rows (replicate 510 false) (replicate 510 false) found₁ rows₁ inside₁ under₁ → Settled arrays true found₁ rows₁ inside₁ under₁ found₂ rows₂ inside₂ under₂ → AllOut n at found₂ out r found₃ out₁ → (out₂ : List ℕ) → out₂ ≡ putRecord r (clauseRecord 2 (pair u v)) out₁ → ClausesPut arrays n Here (pair u v ∷ []) 1 at out (r + 1) found₃ out₂
   unfolding clauseOut clauseOf recordsOf conclusionRecord flatMap
   clause-put some stops edges hops trail found rows found₁ rows₁ inside₁ under₁ found₂ rows₂ inside₂ under₂ found₃ at r out out₁ c w s a out₂ e₂ =
       let marks : (ts : List Term) (ls : List Literal) (table : List Term) (G : Graph) → ReadableHere ts ls table G → (p : Pair) → PairWithin 511 p → PairMarked found₂ p ↔ Premise table p (path G u v) = λ ts ls table G x p k. premises-marked ts ls table G x stops edges hops (trail ts ls table G x) found rows found₁ rows₁ inside₁ under₁ found₂ rows₂ inside₂ under₂ c w s p k in
-      subst (ClausesPut args arities toward by rank lefts rights inb derived count n Here (pair u v ∷ []) 1 at out (r + 1) found₃) (sym e₂)
+      subst (ClausesPut arrays n Here (pair u v ∷ []) 1 at out (r + 1) found₃) (sym e₂)
       (record {
         few = omega (arith, a .few);
         same = put-length r (clauseRecord 2 (pair u v)) out₁ (record-length 2 (pair u v)) ∙ premises-length (keep (marked found₂) (pairsBelow n)) at out r out₁ (a .premises);
@@ -131,10 +132,10 @@ unfolding flatMap
 flatMap-append f [] ys = refl
 flatMap-append {B = B} f (x ∷ xs) ys = ap (λ (l : List B). f x ++ l) (flatMap-append f xs ys) ∙ sym (append-assoc (f x) (flatMap f xs) (flatMap f ys))
 
-module _ (args arities toward by rank lefts rights : List ℕ) (inb derived : List Bool) (count n : ℕ) where
+module _ (arrays : Drawing) (n : ℕ) where
   -- the clauses of these pairs are written
   abbrev Put : (Pair → Type 0) → List Pair → ℕ → ℕ → List ℕ → ℕ → List Bool → List ℕ → Type 0
-  Put C ps most at out r found′ out′ = ClausesPut args arities toward by rank lefts rights inb derived count n C ps most at out r found′ out′
+  Put C ps most at out r found′ out′ = ClausesPut arrays n C ps most at out r found′ out′
 
   -- none yet
   pub clauses-none : (C : Pair → Type 0) (most at : ℕ) (out : List ℕ) (found : List Bool) → length found ≡ 261121 → Clear found → Put C [] most at out at found out
@@ -247,15 +248,10 @@ module _ (args arities toward by rank lefts rights : List ℕ) (inb derived : Li
         subst (RowClauses pairs u at out v r′ found′) (sym o) (subst (λ (y : List Bool). RowClauses pairs u at out v r′ y out₁) (sym f) (subst (λ (y : ℕ). RowClauses pairs u at out v y found out₁) (sym e) x))
 
   -- what is read of all marked pairs is read of one of them
-  pub readable-one : (pairs : List Bool) (p : Pair) → PairMarked pairs p → ReadableSome args arities toward by rank lefts rights inb derived count n (PairMarked pairs) → ReadableSome args arities toward by rank lefts rights inb derived count n (λ q. q ≡ p)
+  pub readable-one : (pairs : List Bool) (p : Pair) → PairMarked pairs p → ReadableSome arrays n (PairMarked pairs) → ReadableSome arrays n (λ q. q ≡ p)
   readable-one pairs p m s = (s .0, s .1, s .2, s .3, record { drawn = s .4 .drawn; terms = s .4 .terms; connected = λ q w e. s .4 .connected q w (subst (PairMarked pairs) (sym e) m) })
 
 -- ---- the stretches of a disequality
-
--- a part of a trail is within the arrays too
-pub within-part : (stops edges : List ℕ) (hops lo hi : ℕ) → lo ≤ hi → hi ≤ hops → Within stops edges 0 hops → Within stops edges lo hi
-within-part stops edges hops lo hi h k w =
-    record { forward = h; short = omega (arith, w .short); stops-low = λ i l. w .stops-low i (omega (arith, l)); edges-low = λ i l. w .edges-low i (omega (arith, l)) }
 
 -- the record of "not [middle]"
 pub last-below : (stops : List ℕ) (lo hi : ℕ) → lo < hi → getD stops lo 0 < getD stops hi 0 → conclusionRecord (notAt stops lo hi) ≡ clauseRecord 3 (pair (getD stops lo 0) (getD stops hi 0))
@@ -274,24 +270,35 @@ pub last-empty : (stops : List ℕ) (lo hi : ℕ) → hi ≤ lo → conclusionRe
 unfolding notAt conclusionRecord
 last-empty stops lo hi h = ap (λ (t : Bool). conclusionRecord (cond t (differs (between (getD stops lo 0) (getD stops hi 0))) falsum)) (le-ltb lo hi h)
 
-module _ (args arities toward by rank lefts rights : List ℕ) (inb derived : List Bool) (count : ℕ) (stops edges : List ℕ) (lo hi hops : ℕ) where
+module _ (arrays : Drawing) (stops edges : List ℕ) (lo hi hops : ℕ) where
   -- the marks of three stretches, settled
-  pub concluded : (pairs rows p₁ r₁ i₁ u₁ p₂ r₂ i₂ u₂ p₃ r₃ i₃ u₃ p₄ r₄ i₄ u₄ : List Bool) → Clear pairs → Wanted inb stops edges lo hi false true pairs rows (replicate 510 false) (replicate 510 false) p₁ r₁ i₁ u₁ → Wanted inb stops edges 0 lo false false p₁ r₁ i₁ u₁ p₂ r₂ i₂ u₂ → Wanted inb stops edges hi hops false false p₂ r₂ i₂ u₂ p₃ r₃ i₃ u₃ → Settled args arities toward by rank lefts rights inb derived count false p₃ r₃ i₃ u₃ p₄ r₄ i₄ u₄ → Concluding args arities toward by rank lefts rights inb derived count stops edges lo hi hops p₄ r₄
-  concluded pairs rows p₁ r₁ i₁ u₁ p₂ r₂ i₂ u₂ p₃ r₃ i₃ u₃ p₄ r₄ i₄ u₄ c w₁ w₂ w₃ s =
+  pub concluded : (pairs rows p₁ r₁ i₁ u₁ p₃ r₃ i₃ u₃ p₄ r₄ i₄ u₄ : List Bool) → Clear pairs → Wanted (arrays .inb) stops edges lo hi false true pairs rows (replicate 510 false) (replicate 510 false) p₁ r₁ i₁ u₁ → OuterWanted (arrays .inb) stops edges lo hi hops false p₁ r₁ i₁ u₁ p₃ r₃ i₃ u₃ → Settled arrays false p₃ r₃ i₃ u₃ p₄ r₄ i₄ u₄ → Concluding arrays stops edges lo hi hops p₄ r₄
+  concluded pairs rows p₁ r₁ i₁ u₁ p₃ r₃ i₃ u₃ p₄ r₄ i₄ u₄ c w o s =
       record {
         square = s .in-order .square;
-        cover = s .cover (w₃ .cover (w₂ .cover (w₁ .cover (none-covered pairs c rows))));
-        marks = λ ts ls table G d before middle after ob om oa tb tm ta p v. let read = owed-wanted args arities toward by rank lefts rights inb derived count ts ls table G d false in let a = read true middle om stops edges lo hi pairs rows (replicate 510 false) (replicate 510 false) p₁ r₁ i₁ u₁ tm w₁ p v in let b = read false before ob stops edges 0 lo p₁ r₁ i₁ u₁ p₂ r₂ i₂ u₂ tb w₂ p v in let e = read false after oa stops edges hi hops p₂ r₂ i₂ u₂ p₃ r₃ i₃ u₃ ta w₃ p v in let m = s .marks ts ls table G d p v in (λ x. ⊎-elim (λ y. ⊎-elim (λ z. ⊎-elim (λ q. absurd (none-owed args arities toward by rank lefts rights inb derived count ts ls table G d false pairs c p v q)) inl (a .0 z)) (λ z. inr (inl z)) (b .0 y)) (λ y. inr (inr y)) (e .0 (m .0 x)), λ x. m .1 (e .1 (⊎-elim (λ y. inl (b .1 (inl (a .1 (inr y))))) (λ y. ⊎-elim (λ z. inl (b .1 (inr z))) (λ z. inr z) y) x)));
+        cover = s .cover (o .after .cover (o .before .cover (w .cover (none-covered pairs c rows))));
+        marks = λ ts ls table G d before middle after ob om oa tb tm ta p v. let read = owed-wanted arrays ts ls table G d false in let a = read true middle om stops edges lo hi pairs rows (replicate 510 false) (replicate 510 false) p₁ r₁ i₁ u₁ tm w p v in let b = read false before ob stops edges 0 lo p₁ r₁ i₁ u₁ (o .pairs₁) (o .rows₁) (o .inside₁) (o .under₁) tb (o .before) p v in let e = read false after oa stops edges hi hops (o .pairs₁) (o .rows₁) (o .inside₁) (o .under₁) p₃ r₃ i₃ u₃ ta (o .after) p v in let m = s .marks ts ls table G d p v in (λ x. ⊎-elim (λ y. ⊎-elim (λ z. ⊎-elim (λ q. absurd (none-owed arrays ts ls table G d false pairs c p v q)) inl (a .0 z)) (λ z. inr (inl z)) (b .0 y)) (λ y. inr (inr y)) (e .0 (m .0 x)), λ x. m .1 (e .1 (⊎-elim (λ y. inl (b .1 (inl (a .1 (inr y))))) (λ y. ⊎-elim (λ z. inl (b .1 (inr z))) (λ z. inr z) y) x)));
       }
 
-  -- the premises of two stretches, settled and written, and the last conclusion
-  pub last-put : (n : ℕ) → n ≤ 511 → (found rows f₁ r₁ i₁ u₁ f₂ r₂ i₂ u₂ f₃ r₃ i₃ u₃ f₄ : List Bool) (at r : ℕ) (out out₁ out₂ : List ℕ) → Clear found → Wanted inb stops edges 0 lo true true found rows (replicate 510 false) (replicate 510 false) f₁ r₁ i₁ u₁ → Wanted inb stops edges hi hops true true f₁ r₁ i₁ u₁ f₂ r₂ i₂ u₂ → Settled args arities toward by rank lefts rights inb derived count true f₂ r₂ i₂ u₂ f₃ r₃ i₃ u₃ → AllOut n at f₃ out r f₄ out₁ → out₂ ≡ putRecord r (conclusionRecord (notAt stops lo hi)) out₁ → LastPut args arities toward by rank lefts rights inb derived count n stops edges lo hi hops at out (r + 1) out₂
-  unfolding recordsOf
-  last-put n small found rows f₁ r₁ i₁ u₁ f₂ r₂ i₂ u₂ f₃ r₃ i₃ u₃ f₄ at r out out₁ out₂ c w₁ w₂ s a e₂ =
-      record {
-        written = λ ts ls table G d before after ob oa tb ta qs f. let read = owed-wanted args arities toward by rank lefts rights inb derived count ts ls table G d true in let marks : (p : Pair) → PairWithin 511 p → PairMarked f₃ p ↔ List·Memᴰ p qs = λ p v. let x = read true before ob stops edges 0 lo found rows (replicate 510 false) (replicate 510 false) f₁ r₁ i₁ u₁ tb w₁ p v in let y = read true after oa stops edges hi hops f₁ r₁ i₁ u₁ f₂ r₂ i₂ u₂ ta w₂ p v in let m = s .marks ts ls table G d p v in (λ k. f p .1 (⊎-elim (λ z. ⊎-elim (λ q. absurd (none-owed args arities toward by rank lefts rights inb derived count ts ls table G d true found c p v q)) (λ q. inl (reached-premise table p q)) (x .0 z)) (λ z. inr (reached-premise table p z)) (y .0 (m .0 k))), λ k. m .1 (y .1 (⊎-elim (λ z. inl (x .1 (inr (premise-reached table p z)))) (λ z. inr (premise-reached table p z)) (f p .0 k)))) in subst (λ (o : List ℕ). RecordsPut (map (clauseRecord 1) (ascending n qs) ++ (conclusionRecord (notAt stops lo hi) ∷ [])) at out (r + 1) o) (sym e₂) (records-more (map (clauseRecord 1) (ascending n qs)) (conclusionRecord (notAt stops lo hi)) at out r out₁ (subst (λ (ps : List Pair). RecordsPut (map (clauseRecord 1) ps) at out r out₁) (marked-ascending n f₃ qs small marks) (premises-put (keep (marked f₃) (pairsBelow n)) at out r out₁ (a .premises))));
-        same = ap length e₂ ∙ put-length r (conclusionRecord (notAt stops lo hi)) out₁ (conclusion-long (notAt stops lo hi)) ∙ premises-length (keep (marked f₃) (pairsBelow n)) at out r out₁ (a .premises);
-      }
-    where
-      conclusion-long : (k : Conclusion) → length (conclusionRecord k) ≡ 8
-      conclusion-long k = let q = conclusionRecord-kind k in ap length (q .is) ∙ record-length (q .kind) (q .of)
+  module _ (n : ℕ) (small : n ≤ 511) (found rows f₂ r₂ i₂ u₂ f₃ r₃ i₃ u₃ : List Bool) (c : Clear found) (o : OuterWanted (arrays .inb) stops edges lo hi hops true found rows (replicate 510 false) (replicate 510 false) f₂ r₂ i₂ u₂) (s : Settled arrays true f₂ r₂ i₂ u₂ f₃ r₃ i₃ u₃) where
+    -- the premises of two stretches are what is marked
+    outer-marked : (ts : List Term) (ls : List Literal) (table : List Term) (G : Graph) → Drawn arrays ts ls table G → (before after : Path) → Over G before → Over G after → Trailed (arrays .inb) stops edges lo 0 before → Trailed (arrays .inb) stops edges hops hi after → (p : Pair) → PairWithin 511 p → PairMarked f₃ p ↔ (Premise table p before ⊎ Premise table p after)
+    outer-marked ts ls table G d before after ob oa tb ta p v =
+        let read = owed-wanted arrays ts ls table G d true in
+        let x = read true before ob stops edges 0 lo found rows (replicate 510 false) (replicate 510 false) (o .pairs₁) (o .rows₁) (o .inside₁) (o .under₁) tb (o .before) p v in
+        let y = read true after oa stops edges hi hops (o .pairs₁) (o .rows₁) (o .inside₁) (o .under₁) f₂ r₂ i₂ u₂ ta (o .after) p v in
+        let m = s .marks ts ls table G d p v in
+        (λ k. ⊎-elim (λ z. ⊎-elim (λ q. absurd (none-owed arrays ts ls table G d true found c p v q)) (λ q. inl (reached-premise table p q)) (x .0 z)) (λ z. inr (reached-premise table p z)) (y .0 (m .0 k)), λ k. m .1 (y .1 (⊎-elim (λ z. inl (x .1 (inr (premise-reached table p z)))) (λ z. inr (premise-reached table p z)) k)))
+
+    -- they are written, and then the last conclusion
+    pub last-put : (f₄ : List Bool) (at r : ℕ) (out out₁ out₂ : List ℕ) → AllOut n at f₃ out r f₄ out₁ → out₂ ≡ putRecord r (conclusionRecord (notAt stops lo hi)) out₁ → LastPut arrays n stops edges lo hi hops at out (r + 1) f₄ out₂
+    unfolding recordsOf
+    last-put f₄ at r out out₁ out₂ a e₂ =
+        record {
+          written = λ ts ls table G d before after ob oa tb ta qs f. let marks : (p : Pair) → PairWithin 511 p → PairMarked f₃ p ↔ List·Memᴰ p qs = λ p v. let x = outer-marked ts ls table G d before after ob oa tb ta p v in (λ k. f p .1 (x .0 k), λ k. x .1 (f p .0 k)) in (subst (λ (o : List ℕ). RecordsPut (map (clauseRecord 1) (ascending n qs) ++ (conclusionRecord (notAt stops lo hi) ∷ [])) at out (r + 1) o) (sym e₂) (records-more (map (clauseRecord 1) (ascending n qs)) (conclusionRecord (notAt stops lo hi)) at out r out₁ (subst (λ (ps : List Pair). RecordsPut (map (clauseRecord 1) ps) at out r out₁) (marked-ascending n f₃ qs small marks) (premises-put (keep (marked f₃) (pairsBelow n)) at out r out₁ (a .premises)))), λ low p k m. let y = a .left-over p k .0 m in omega (arith, y .1, low p (marks p k .0 (y .0))));
+          same = ap length e₂ ∙ put-length r (conclusionRecord (notAt stops lo hi)) out₁ (conclusion-long (notAt stops lo hi)) ∙ premises-length (keep (marked f₃) (pairsBelow n)) at out r out₁ (a .premises);
+          sized = a .sized;
+        }
+      where
+        conclusion-long : (k : Conclusion) → length (conclusionRecord k) ≡ 8
+        conclusion-long k = let q = conclusionRecord-kind k in ap length (q .is) ∙ record-length (q .kind) (q .of)

@@ -1,5 +1,5 @@
 -- Reading the parent paths of marked edges, from the newest to the oldest: what is owed stays the same until all of it is marked.
-use mathlib.Core.Bool.{Bool, true, false}
+use mathlib.Core.Bool.{Bool, true, false, _&&_, _||_}
 use mathlib.Core.List.{List, [], _∷_, map, zipWith, List·Memᴰ, List·Memᴰ·head, List·Memᴰ·tail, List·Memᴰ·not-nil, List·Memᴰ·cases-cons}
 use mathlib.Core.Logic.{_⊎_, inl, inr, ⊎-elim, _↔_}
 use mathlib.Core.Path.{_≡_, refl, sym, ap, ap₂, subst, _∙_}
@@ -12,7 +12,7 @@ use lib.Seq.{getD-take, getD-drop, length-take-le}
 use Rattle.tables.specs.Words.{Pair}
 use Rattle.tables.specs.Terms.{Term, termAt}
 use Rattle.tables.specs.LiteralTable.{Literal}
-use Rattle.tables.proofs.Words.{and-left, and-right, getD-mem, below-or-is, passes}
+use Rattle.tables.proofs.Words.{and-left, and-right, getD-mem, below-or-is, passes, passed}
 use Rattle.closure.specs.declared.Edge.{Edge}
 use Rattle.closure.specs.declared.EdgeKind.{EdgeKind}
 use Rattle.closure.specs.declared.EdgeKind.the-variants.{Basic, Derived}
@@ -28,6 +28,7 @@ use Rattle.closure.proofs.Walking.Invariant.{Behind}
 use Rattle.closure.proofs.Walking.OnePath.{path-older}
 use Rattle.closure.proofs.Walking.Parents.{hop-sound, path-hop, parent-hop}
 use Rattle.closure.proofs.Walking.ParentPaths.{sound-forest}
+use Rattle.summing.specs.declared.drawing.Drawing.{Drawing}
 use Rattle.summing.specs.Marks.{isB, Reached, end-of, across, along, EdgeReached, PairWithin, Marked, Covered, Owed, Trailed, done, step, Within, Wanted}
 use Rattle.summing.specs.Drawn.{isDerived, EdgeAt, Drawn, DrawnSome, InOrder, EdgeSettled, Settled}
 use Rattle.summing.proofs.Squares.{same-or-not}
@@ -126,15 +127,23 @@ at-between H (x ∷ xs) (y ∷ ys) {π} m =
 
 -- ---- the arrays
 
--- the vertex at place k of the arguments of an edge's end
-abbrev pub argAt : List ℕ → List ℕ → ℕ → ℕ → ℕ
-argAt args ends i k = getD args (4 * getD ends i 0 + k) 0
+-- the arity of an edge's ends
+abbrev pub arityAt : Drawing → ℕ → ℕ
+arityAt arrays i = getD (arrays .arities) (getD (arrays .lefts) i 0) 0
 
-module _ (args arities toward by rank lefts rights : List ℕ) (inb derived : List Bool) (count : ℕ) (ts : List Term) (ls : List Literal) (table : List Term) (G : Graph) (d : Drawn args arities toward by rank lefts rights inb derived count ts ls table G) where
+-- the vertex at place k of the arguments of an edge's left end
+abbrev pub leftAt : Drawing → ℕ → ℕ → ℕ
+leftAt arrays i k = getD (arrays .args) (4 * getD (arrays .lefts) i 0 + k) 0
+
+-- the same of the right end
+abbrev pub rightAt : Drawing → ℕ → ℕ → ℕ
+rightAt arrays i k = getD (arrays .args) (4 * getD (arrays .rights) i 0 + k) 0
+
+module _ (arrays : Drawing) (ts : List Term) (ls : List Literal) (table : List Term) (G : Graph) (d : Drawn arrays ts ls table G) where
   -- the path between joined vertices as the closure layer hands it out
   pub record PathRead (u v hi : ℕ) (stops edges : List ℕ) : Type 0 where
     pub within : Within stops edges 0 hi
-    pub trailed : Trailed inb stops edges hi 0 (path G u v)
+    pub trailed : Trailed (arrays .inb) stops edges hi 0 (path G u v)
     pub in-table : u < length table → (k : ℕ) → k ≤ hi → getD stops k 0 < length table
 
   -- its trail and its range
@@ -148,19 +157,19 @@ module _ (args arities toward by rank lefts rights : List ℕ) (inb derived : Li
       let none : (k : ℕ) → 0 + k ≡ k = λ k. omega arith in
       record {
         within = record { forward = omega arith; short = t .within; stops-low = λ k l. subst (λ (x : ℕ). x < 511) (sym (S k (omega (arith, t .hops, l)))) (in-range .0 k (omega (arith, t .hops, l))); edges-low = λ k l. subst (λ (x : ℕ). x < 510) (sym (E k (omega (arith, t .hops, l)))) (in-range .1 k (omega (arith, t .hops, l))) };
-        trailed = walk-trailed inb (r .stops) (r .edges) (r .hops) G (λ h of. hop-colour lefts rights inb derived G (d .edges) of) 0 w (omega (arith, t .hops)) (λ k l. ap (λ (m : ℕ). getD (r .stops) m 0) (none k) ∙ S k l) (λ k l. ap (λ (m : ℕ). getD (r .edges) m 0) (none k) ∙ E k l);
+        trailed = walk-trailed (arrays .inb) (r .stops) (r .edges) (r .hops) G (λ h of. hop-colour (arrays .lefts) (arrays .rights) (arrays .inb) (arrays .derived) G (d .edges) of) 0 w (omega (arith, t .hops)) (λ k l. ap (λ (m : ℕ). getD (r .stops) m 0) (none k) ∙ S k l) (λ k l. ap (λ (m : ℕ). getD (r .edges) m 0) (none k) ∙ E k l);
         in-table = λ low k l. subst (λ (x : ℕ). x < length table) (sym (S k (omega (arith, t .hops, l)))) (walk-stops G (length table) 510 (λ h of. (hop-sound ts ls table of (d .sound) .to-within, range h of .1)) low w .0 k (omega (arith, t .hops, l)));
       }
 
   -- the arguments of a vertex stand at its four places
-  pub arguments-long : (v : ℕ) → v < length table → length (termAt table v .arguments) ≡ getD arities v 0
+  pub arguments-long : (v : ℕ) → v < length table → length (termAt table v .arguments) ≡ getD (arrays .arities) v 0
   arguments-long v h =
-      ap length (d .arguments v h) ∙ length-take-le (getD arities v 0) (drop (4 * v) args) (omega (arith, length-drop (4 * v) args, d .long, d .arity v h, d .small))
+      ap length (d .arguments v h) ∙ length-take-le (getD (arrays .arities) v 0) (drop (4 * v) (arrays .args)) (omega (arith, length-drop (4 * v) (arrays .args), d .long, d .arity v h, d .small))
 
   -- each at its place
-  pub argument-at : (v : ℕ) → v < length table → (k : ℕ) → k < getD arities v 0 → getD (termAt table v .arguments) k 0 ≡ getD args (4 * v + k) 0
+  pub argument-at : (v : ℕ) → v < length table → (k : ℕ) → k < getD (arrays .arities) v 0 → getD (termAt table v .arguments) k 0 ≡ getD (arrays .args) (4 * v + k) 0
   argument-at v h k l =
-      ap (λ (x : List ℕ). getD x k 0) (d .arguments v h) ∙ getD-take (getD arities v 0) (drop (4 * v) args) k 0 l ∙ getD-drop (4 * v) args k 0
+      ap (λ (x : List ℕ). getD x k 0) (d .arguments v h) ∙ getD-take (getD (arrays .arities) v 0) (drop (4 * v) (arrays .args)) k 0 l ∙ getD-drop (4 * v) (arrays .args) k 0
 
   -- the ends of an edge by its number
   pub record EdgeRead (i : ℕ) : Type 0 where
@@ -168,19 +177,19 @@ module _ (args arities toward by rank lefts rights : List ℕ) (inb derived : Li
     pub older : Graph
     pub walked : HopOf (forth edge older) G
     pub count-is : length older ≡ i
-    pub left-is : getD lefts i 0 ≡ edge .left
-    pub right-is : getD rights i 0 ≡ edge .right
-    pub kind-is : getD derived i false ≡ isDerived (edge .kind)
-    pub left-low : getD lefts i 0 < length table
-    pub right-low : getD rights i 0 < length table
+    pub left-is : getD (arrays .lefts) i 0 ≡ edge .left
+    pub right-is : getD (arrays .rights) i 0 ≡ edge .right
+    pub kind-is : getD (arrays .derived) i false ≡ isDerived (edge .kind)
+    pub left-low : getD (arrays .lefts) i 0 < length table
+    pub right-low : getD (arrays .rights) i 0 < length table
 
   -- each number below the count has one
-  pub edge-read : (i : ℕ) → i < count → EdgeRead i
+  pub edge-read : (i : ℕ) → i < arrays .count → EdgeRead i
   edge-read i h =
-      let n = numbered (EdgeAt lefts rights inb derived) G i (d .edges) (omega (arith, d .counted)) in
+      let n = numbered (EdgeAt (arrays .lefts) (arrays .rights) (arrays .inb) (arrays .derived)) G i (d .edges) (omega (arith, d .counted)) in
       let k = hop-sound ts ls table (n .walked) (d .sound) in
-      let l : getD lefts i 0 ≡ n .edge .left = ap (λ (x : ℕ). getD lefts x 0) (sym (n .count)) ∙ n .has .left-at in
-      let r : getD rights i 0 ≡ n .edge .right = ap (λ (x : ℕ). getD rights x 0) (sym (n .count)) ∙ n .has .right-at in
+      let l : getD (arrays .lefts) i 0 ≡ n .edge .left = ap (λ (x : ℕ). getD (arrays .lefts) x 0) (sym (n .count)) ∙ n .has .left-at in
+      let r : getD (arrays .rights) i 0 ≡ n .edge .right = ap (λ (x : ℕ). getD (arrays .rights) x 0) (sym (n .count)) ∙ n .has .right-at in
       record {
         edge = n .edge;
         older = n .older;
@@ -188,29 +197,21 @@ module _ (args arities toward by rank lefts rights : List ℕ) (inb derived : Li
         count-is = n .count;
         left-is = l;
         right-is = r;
-        kind-is = ap (λ (x : ℕ). getD derived x false) (sym (n .count)) ∙ n .has .kind-at;
+        kind-is = ap (λ (x : ℕ). getD (arrays .derived) x false) (sym (n .count)) ∙ n .has .kind-at;
         left-low = subst (λ (x : ℕ). x < length table) (sym l) (k .from-within);
         right-low = subst (λ (x : ℕ). x < length table) (sym r) (k .to-within);
       }
 
-  -- the vertices at place k of an edge's ends
-  abbrev pub leftAt : ℕ → ℕ → ℕ
-  leftAt i k = argAt args lefts i k
-
-  -- the same of the right end
-  abbrev pub rightAt : ℕ → ℕ → ℕ
-  rightAt i k = argAt args rights i k
-
   -- what the arguments at place k of a derived edge are
   pub record Paired (i k : ℕ) (H : Graph) (h : Hop) : Type 0 where
-    pub left-small : leftAt i k < 511
-    pub right-small : rightAt i k < 511
-    pub right-used : k < getD arities (getD rights i 0) 0
-    pub join : T (joined G (leftAt i k) (rightAt i k))
-    pub is-parent : List·Memᴰ (path G (leftAt i k) (rightAt i k)) (parentPaths table h)
+    pub left-small : leftAt arrays i k < 511
+    pub right-small : rightAt arrays i k < 511
+    pub right-used : k < getD (arrays .arities) (getD (arrays .rights) i 0) 0
+    pub join : T (joined G (leftAt arrays i k) (rightAt arrays i k))
+    pub is-parent : List·Memᴰ (path G (leftAt arrays i k) (rightAt arrays i k)) (parentPaths table h)
 
   -- a derived edge's arguments are joined pair by pair, and the paths between them are its parent paths
-  module _ (i : ℕ) (h : i < count) (is : getD derived i false ≡ true) where
+  module _ (i : ℕ) (h : i < arrays .count) (is : getD (arrays .derived) i false ≡ true) where
     -- the edge
     edgeI : EdgeRead i
     edgeI = edge-read i h
@@ -221,11 +222,11 @@ module _ (args arities toward by rank lefts rights : List ℕ) (inb derived : Li
 
     -- the arguments of its left end
     xs : List ℕ
-    xs = termAt table (getD lefts i 0) .arguments
+    xs = termAt table (getD (arrays .lefts) i 0) .arguments
 
     -- the arguments of its right end
     ys : List ℕ
-    ys = termAt table (getD rights i 0) .arguments
+    ys = termAt table (getD (arrays .rights) i 0) .arguments
 
     -- its hop is derived
     kind-derived : hopI .kind ≡ Derived
@@ -241,7 +242,7 @@ module _ (args arities toward by rank lefts rights : List ℕ) (inb derived : Li
     pairwise =
         let r = edge-read i h in
         let b = subst (Behind ls table (hopI .older) (r .edge)) kind-derived (hop-sound ts ls table (r .walked) (d .sound) .behind) in
-        subst (λ (x : ℕ). T (joinedPairwise (hopI .older) (termAt table x .arguments) (termAt table (getD rights i 0) .arguments))) (sym (r .left-is))
+        subst (λ (x : ℕ). T (joinedPairwise (hopI .older) (termAt table x .arguments) (termAt table (getD (arrays .rights) i 0) .arguments))) (sym (r .left-is))
         (subst (λ (x : ℕ). T (joinedPairwise (hopI .older) (termAt table (r .edge .left) .arguments) (termAt table x .arguments))) (sym (r .right-is))
         (and-right (eqb (termAt table (r .edge .left) .symbol) (termAt table (r .edge .right) .symbol)) (joinedPairwise (hopI .older) (termAt table (r .edge .left) .arguments) (termAt table (r .edge .right) .arguments)) b))
 
@@ -254,70 +255,70 @@ module _ (args arities toward by rank lefts rights : List ℕ) (inb derived : Li
         ap₂ (λ (x y : ℕ). pathsBetween (hopI .older) (termAt table x .arguments) (termAt table y .arguments)) (sym (r .left-is)) (sym (r .right-is))
 
     -- at each place of the arity
-    pub paired : (k : ℕ) → k < getD arities (getD lefts i 0) 0 → Paired i k (hopI .older) hopI
+    pub paired : (k : ℕ) → k < arityAt arrays i → Paired i k (hopI .older) hopI
     unfolding xs ys
     paired k l =
         let r = edge-read i h in
-        let x = joined-at (hopI .older) xs ys pairwise k (omega (arith, arguments-long (getD lefts i 0) (r .left-low))) in
-        let used : k < getD arities (getD rights i 0) 0 = omega (arith, x .0, arguments-long (getD rights i 0) (r .right-low)) in
-        let a : getD xs k 0 ≡ leftAt i k = argument-at (getD lefts i 0) (r .left-low) k l in
-        let b : getD ys k 0 ≡ rightAt i k = argument-at (getD rights i 0) (r .right-low) k used in
-        let j : T (joined (hopI .older) (leftAt i k) (rightAt i k)) = subst (λ (y : ℕ). T (joined (hopI .older) (leftAt i k) y)) b (subst (λ (y : ℕ). T (joined (hopI .older) y (getD ys k 0))) a (x .1)) in
-        let same : path (hopI .older) (getD xs k 0) (getD ys k 0) ≡ path G (leftAt i k) (rightAt i k) = ap₂ (path (hopI .older)) a b ∙ path-older (leftAt i k) (rightAt i k) (r .walked) j in
-        let in-left = d .lower (getD lefts i 0) (r .left-low) (getD xs k 0) (getD-mem xs k 0 (omega (arith, arguments-long (getD lefts i 0) (r .left-low)))) in
-        let in-right = d .lower (getD rights i 0) (r .right-low) (getD ys k 0) (getD-mem ys k 0 (x .0)) in
+        let x = joined-at (hopI .older) xs ys pairwise k (omega (arith, arguments-long (getD (arrays .lefts) i 0) (r .left-low))) in
+        let used : k < getD (arrays .arities) (getD (arrays .rights) i 0) 0 = omega (arith, x .0, arguments-long (getD (arrays .rights) i 0) (r .right-low)) in
+        let a : getD xs k 0 ≡ leftAt arrays i k = argument-at (getD (arrays .lefts) i 0) (r .left-low) k l in
+        let b : getD ys k 0 ≡ rightAt arrays i k = argument-at (getD (arrays .rights) i 0) (r .right-low) k used in
+        let j : T (joined (hopI .older) (leftAt arrays i k) (rightAt arrays i k)) = subst (λ (y : ℕ). T (joined (hopI .older) (leftAt arrays i k) y)) b (subst (λ (y : ℕ). T (joined (hopI .older) y (getD ys k 0))) a (x .1)) in
+        let same : path (hopI .older) (getD xs k 0) (getD ys k 0) ≡ path G (leftAt arrays i k) (rightAt arrays i k) = ap₂ (path (hopI .older)) a b ∙ path-older (leftAt arrays i k) (rightAt arrays i k) (r .walked) j in
+        let in-left = d .lower (getD (arrays .lefts) i 0) (r .left-low) (getD xs k 0) (getD-mem xs k 0 (omega (arith, arguments-long (getD (arrays .lefts) i 0) (r .left-low)))) in
+        let in-right = d .lower (getD (arrays .rights) i 0) (r .right-low) (getD ys k 0) (getD-mem ys k 0 (x .0)) in
         record {
           left-small = omega (arith, in-left, a, r .left-low, d .small);
           right-small = omega (arith, in-right, b, r .right-low, d .small);
           right-used = used;
-          join = older-joined (leftAt i k) (rightAt i k) (r .walked) j;
-          is-parent = subst (λ (π : Path). List·Memᴰ π (parentPaths table hopI)) same (subst (List·Memᴰ (path (hopI .older) (getD xs k 0) (getD ys k 0))) (sym parents-are) (between-at (hopI .older) xs ys k (omega (arith, arguments-long (getD lefts i 0) (r .left-low))) (x .0)));
+          join = older-joined (leftAt arrays i k) (rightAt arrays i k) (r .walked) j;
+          is-parent = subst (λ (π : Path). List·Memᴰ π (parentPaths table hopI)) same (subst (List·Memᴰ (path (hopI .older) (getD xs k 0) (getD ys k 0))) (sym parents-are) (between-at (hopI .older) xs ys k (omega (arith, arguments-long (getD (arrays .lefts) i 0) (r .left-low))) (x .0)));
         }
 
     -- and there is no other parent path
-    pub parent-paired : {π : Path} → List·Memᴰ π (parentPaths table hopI) → (k : ℕ) × (k < getD arities (getD lefts i 0) 0) × (π ≡ path G (leftAt i k) (rightAt i k))
+    pub parent-paired : {π : Path} → List·Memᴰ π (parentPaths table hopI) → (k : ℕ) × (k < arityAt arrays i) × (π ≡ path G (leftAt arrays i k) (rightAt arrays i k))
     unfolding xs ys
     parent-paired {π} m =
         let r = edge-read i h in
         let q = at-between (hopI .older) xs ys (subst (List·Memᴰ π) parents-are m) in
-        let l : q .0 < getD arities (getD lefts i 0) 0 = omega (arith, q .1, arguments-long (getD lefts i 0) (r .left-low)) in
+        let l : q .0 < arityAt arrays i = omega (arith, q .1, arguments-long (getD (arrays .lefts) i 0) (r .left-low)) in
         let x = joined-at (hopI .older) xs ys pairwise (q .0) (q .1) in
-        let a = argument-at (getD lefts i 0) (r .left-low) (q .0) l in
-        let b = argument-at (getD rights i 0) (r .right-low) (q .0) (omega (arith, x .0, arguments-long (getD rights i 0) (r .right-low))) in
-        let j = subst (λ (y : ℕ). T (joined (hopI .older) (leftAt i (q .0)) y)) b (subst (λ (y : ℕ). T (joined (hopI .older) y (getD ys (q .0) 0))) a (x .1)) in
-        (q .0, l, q .2 ∙ ap₂ (path (hopI .older)) a b ∙ path-older (leftAt i (q .0)) (rightAt i (q .0)) (r .walked) j)
+        let a = argument-at (getD (arrays .lefts) i 0) (r .left-low) (q .0) l in
+        let b = argument-at (getD (arrays .rights) i 0) (r .right-low) (q .0) (omega (arith, x .0, arguments-long (getD (arrays .rights) i 0) (r .right-low))) in
+        let j = subst (λ (y : ℕ). T (joined (hopI .older) (leftAt arrays i (q .0)) y)) b (subst (λ (y : ℕ). T (joined (hopI .older) y (getD ys (q .0) 0))) a (x .1)) in
+        (q .0, l, q .2 ∙ ap₂ (path (hopI .older)) a b ∙ path-older (leftAt arrays i (q .0)) (rightAt arrays i (q .0)) (r .walked) j)
 
     -- what the parent paths of the edge reach is what the paths between its arguments reach
-    pub paired-reached : (b mode : Bool) (p : Pair) → EdgeReached table G b p mode i ↔ ((k : ℕ) × (k < getD arities (getD lefts i 0) 0) × Reached table b p mode (path G (leftAt i k) (rightAt i k)))
+    pub paired-reached : (b mode : Bool) (p : Pair) → EdgeReached table G b p mode i ↔ ((k : ℕ) × (k < arityAt arrays i) × Reached table b p mode (path G (leftAt arrays i k) (rightAt arrays i k)))
     paired-reached b mode p =
         let r = edge-read i h in
-        (λ x. let t = edge-parents ts ls table G (d .sound) b p mode hopI (r .walked) (subst (EdgeReached table G b p mode) (sym (r .count-is)) x) in let q = parent-paired (t .1) in (q .0, q .1, subst (Reached table b p mode) (q .2) (t .2)), λ x. (hopI, r .walked, r .count-is, (path G (leftAt i (x .0)) (rightAt i (x .0)), paired (x .0) (x .1) .is-parent, x .2)))
+        (λ x. let t = edge-parents ts ls table G (d .sound) b p mode hopI (r .walked) (subst (EdgeReached table G b p mode) (sym (r .count-is)) x) in let q = parent-paired (t .1) in (q .0, q .1, subst (Reached table b p mode) (q .2) (t .2)), λ x. (hopI, r .walked, r .count-is, (path G (leftAt arrays i (x .0)) (rightAt arrays i (x .0)), paired (x .0) (x .1) .is-parent, x .2)))
 
     -- a parent path has edges of lower numbers
-    pub paired-lower : (k : ℕ) → k < getD arities (getD lefts i 0) 0 → (g : Hop) → List·Memᴰ g (path G (leftAt i k) (rightAt i k)) → length (g .older) < i
+    pub paired-lower : (k : ℕ) → k < arityAt arrays i → (g : Hop) → List·Memᴰ g (path G (leftAt arrays i k) (rightAt arrays i k)) → length (g .older) < i
     paired-lower k l g m = omega (arith, older-fewer (parent-hop table hopI (paired k l .is-parent) m), edge-read i h .count-is)
 
 -- ---- the turns over the arguments of one edge
 
-module _ (args arities toward by rank lefts rights : List ℕ) (inb derived : List Bool) (count i : ℕ) (b mode : Bool) where
+module _ (arrays : Drawing) (i : ℕ) (b mode : Bool) where
   -- the arrays hold this graph
   abbrev DrawnAs : List Term → List Literal → List Term → Graph → Type 0
-  DrawnAs ts ls table G = Drawn args arities toward by rank lefts rights inb derived count ts ls table G
+  DrawnAs ts ls table G = Drawn arrays ts ls table G
 
   -- the paths between the first j arguments are read
   pub record EdgeTo (pairs₀ rows₀ inside₀ under₀ : List Bool) (j : ℕ) (pairs rows inside under : List Bool) : Type 0 where
     pub in-order : InOrder pairs rows inside under
     pub cover : Covered pairs₀ rows₀ → Covered pairs rows
-    pub owed : (ts : List Term) (ls : List Literal) (table : List Term) (G : Graph) → DrawnAs ts ls table G → (p : Pair) → PairWithin 511 p → Owed table G b pairs inside under i p ↔ (Owed table G b pairs₀ inside₀ under₀ i p ⊎ ((k : ℕ) × (k < j) × Reached table b p mode (path G (argAt args lefts i k) (argAt args rights i k))))
+    pub owed : (ts : List Term) (ls : List Literal) (table : List Term) (G : Graph) → DrawnAs ts ls table G → (p : Pair) → PairWithin 511 p → Owed table G b pairs inside under i p ↔ (Owed table G b pairs₀ inside₀ under₀ i p ⊎ ((k : ℕ) × (k < j) × Reached table b p mode (path G (leftAt arrays i k) (rightAt arrays i k))))
 
   -- no argument yet
   pub edge-none : (pairs rows inside under : List Bool) → InOrder pairs rows inside under → EdgeTo pairs rows inside under 0 pairs rows inside under
   edge-none pairs rows inside under o =
       record { in-order = o; cover = λ c. c; owed = λ ts ls table G d p w. (inl, λ x. ⊎-elim (λ y. y) (λ y. absurd (not-suc-le-zero (y .1))) x) }
 
-  module _ (h : i < count) (is : getD derived i false ≡ true) (pairs₀ rows₀ inside₀ under₀ : List Bool) where
+  module _ (h : i < arrays .count) (is : getD (arrays .derived) i false ≡ true) (pairs₀ rows₀ inside₀ under₀ : List Bool) where
     -- one argument more
-    pub edge-more : (j : ℕ) (pairs rows inside under pairs′ rows′ inside′ under′ : List Bool) (stops edges : List ℕ) (hops : ℕ) → j < getD arities (getD lefts i 0) 0 → ((ts : List Term) (ls : List Literal) (table : List Term) (G : Graph) → DrawnAs ts ls table G → Trailed inb stops edges hops 0 (path G (argAt args lefts i j) (argAt args rights i j))) → EdgeTo pairs₀ rows₀ inside₀ under₀ j pairs rows inside under → Wanted inb stops edges 0 hops b mode pairs rows inside under pairs′ rows′ inside′ under′ → EdgeTo pairs₀ rows₀ inside₀ under₀ (j + 1) pairs′ rows′ inside′ under′
+    pub edge-more : (j : ℕ) (pairs rows inside under pairs′ rows′ inside′ under′ : List Bool) (stops edges : List ℕ) (hops : ℕ) → j < arityAt arrays i → ((ts : List Term) (ls : List Literal) (table : List Term) (G : Graph) → DrawnAs ts ls table G → Trailed (arrays .inb) stops edges hops 0 (path G (leftAt arrays i j) (rightAt arrays i j))) → EdgeTo pairs₀ rows₀ inside₀ under₀ j pairs rows inside under → Wanted (arrays .inb) stops edges 0 hops b mode pairs rows inside under pairs′ rows′ inside′ under′ → EdgeTo pairs₀ rows₀ inside₀ under₀ (j + 1) pairs′ rows′ inside′ under′
     edge-more j pairs rows inside under pairs′ rows′ inside′ under′ stops edges hops l trail x w =
         record {
           in-order = record { square = w .square; inside-sized = w .inside-sized; under-sized = w .under-sized };
@@ -326,83 +327,87 @@ module _ (args arities toward by rank lefts rights : List ℕ) (inb derived : Li
         }
       where
         Reads : List Term → Graph → Pair → ℕ → Type 0
-        Reads table G p n = (k : ℕ) × (k < n) × Reached table b p mode (path G (argAt args lefts i k) (argAt args rights i k))
+        Reads table G p n = (k : ℕ) × (k < n) × Reached table b p mode (path G (leftAt arrays i k) (rightAt arrays i k))
 
-        over : (G : Graph) → (g : Hop) → List·Memᴰ g (path G (argAt args lefts i j) (argAt args rights i j)) → HopOf g G
-        over G g m = path-hop G (argAt args lefts i j) (argAt args rights i j) m
+        over : (G : Graph) → (g : Hop) → List·Memᴰ g (path G (leftAt arrays i j) (rightAt arrays i j)) → HopOf g G
+        over G g m = path-hop G (leftAt arrays i j) (rightAt arrays i j) m
 
-        low : (ts : List Term) (ls : List Literal) (table : List Term) (G : Graph) → DrawnAs ts ls table G → (g : Hop) → List·Memᴰ g (path G (argAt args lefts i j) (argAt args rights i j)) → length (g .older) < i
-        low ts ls table G d g m = paired-lower args arities toward by rank lefts rights inb derived count ts ls table G d i h is j l g m
+        low : (ts : List Term) (ls : List Literal) (table : List Term) (G : Graph) → DrawnAs ts ls table G → (g : Hop) → List·Memᴰ g (path G (leftAt arrays i j) (rightAt arrays i j)) → length (g .older) < i
+        low ts ls table G d g m = paired-lower arrays ts ls table G d i h is j l g m
 
         to : (ts : List Term) (ls : List Literal) (table : List Term) (G : Graph) → DrawnAs ts ls table G → (p : Pair) → PairWithin 511 p → Owed table G b pairs′ inside′ under′ i p → Owed table G b pairs₀ inside₀ under₀ i p ⊎ Reads table G p (j + 1)
         to ts ls table G d p v y =
             ⊎-elim
             (λ z. ⊎-elim inl (λ q. inr (q .0, omega (arith, q .1), q .2)) (x .owed ts ls table G d p v .0 z))
             (λ z. inr (j, omega arith, z))
-            (wants-owed ts ls table G (d .sound) b p mode (path G (argAt args lefts i j) (argAt args rights i j)) (over G) pairs inside under pairs′ inside′ under′ i v (w .wants _ (trail ts ls table G d)) y)
+            (wants-owed ts ls table G (d .sound) b p mode (path G (leftAt arrays i j) (rightAt arrays i j)) (over G) pairs inside under pairs′ inside′ under′ i v (w .wants _ (trail ts ls table G d)) y)
 
         from : (ts : List Term) (ls : List Literal) (table : List Term) (G : Graph) → DrawnAs ts ls table G → (p : Pair) → PairWithin 511 p → Owed table G b pairs₀ inside₀ under₀ i p ⊎ Reads table G p (j + 1) → Owed table G b pairs′ inside′ under′ i p
         from ts ls table G d p v y =
             let wants = w .wants _ (trail ts ls table G d) in
-            let kept : Owed table G b pairs inside under i p → Owed table G b pairs′ inside′ under′ i p = λ z. owed-kept ts ls table G (d .sound) b p mode (path G (argAt args lefts i j) (argAt args rights i j)) (over G) pairs inside under pairs′ inside′ under′ i v wants z in
+            let kept : Owed table G b pairs inside under i p → Owed table G b pairs′ inside′ under′ i p = λ z. owed-kept ts ls table G (d .sound) b p mode (path G (leftAt arrays i j) (rightAt arrays i j)) (over G) pairs inside under pairs′ inside′ under′ i v wants z in
             ⊎-elim
             (λ z. kept (x .owed ts ls table G d p v .1 (inl z)))
-            (λ q. ⊎-elim (λ (m : q .0 < j). kept (x .owed ts ls table G d p v .1 (inr (q .0, m, q .2)))) (λ (e : q .0 ≡ j). reached-owed ts ls table G (d .sound) b p mode (path G (argAt args lefts i j) (argAt args rights i j)) (over G) pairs inside under pairs′ inside′ under′ i v wants (low ts ls table G d) (subst (λ (k : ℕ). Reached table b p mode (path G (argAt args lefts i k) (argAt args rights i k))) e (q .2))) (below-or-is (q .0) j (omega (arith, q .1))))
+            (λ q. ⊎-elim (λ (m : q .0 < j). kept (x .owed ts ls table G d p v .1 (inr (q .0, m, q .2)))) (λ (e : q .0 ≡ j). reached-owed ts ls table G (d .sound) b p mode (path G (leftAt arrays i j) (rightAt arrays i j)) (over G) pairs inside under pairs′ inside′ under′ i v wants (low ts ls table G d) (subst (λ (k : ℕ). Reached table b p mode (path G (leftAt arrays i k) (rightAt arrays i k))) e (q .2))) (below-or-is (q .0) j (omega (arith, q .1))))
             y
 
     -- all of them
-    pub edge-all : (j : ℕ) (pairs rows inside under : List Bool) → j ≡ getD arities (getD lefts i 0) 0 → EdgeTo pairs₀ rows₀ inside₀ under₀ j pairs rows inside under → EdgeSettled args arities toward by rank lefts rights inb derived count i b mode pairs₀ rows₀ inside₀ under₀ pairs rows inside under
+    pub edge-all : (j : ℕ) (pairs rows inside under : List Bool) → j ≡ arityAt arrays i → EdgeTo pairs₀ rows₀ inside₀ under₀ j pairs rows inside under → EdgeSettled arrays i b mode pairs₀ rows₀ inside₀ under₀ pairs rows inside under
     edge-all j pairs rows inside under e x =
         record {
           in-order = x .in-order;
           cover = x .cover;
-          owed = λ ts ls table G d p v. let y = x .owed ts ls table G d p v in let r = paired-reached args arities toward by rank lefts rights inb derived count ts ls table G d i h is b mode p in (λ z. ⊎-elim inl (λ q. inr (r .1 (q .0, omega (arith, q .1, e), q .2))) (y .0 z), λ z. y .1 (⊎-elim inl (λ q. let t = r .0 q in inr (t .0, omega (arith, t .1, e), t .2)) z));
+          owed = λ ts ls table G d p v. let y = x .owed ts ls table G d p v in let r = paired-reached arrays ts ls table G d i h is b mode p in (λ z. ⊎-elim inl (λ q. inr (r .1 (q .0, omega (arith, q .1, e), q .2))) (y .0 z), λ z. y .1 (⊎-elim inl (λ q. let t = r .0 q in inr (t .0, omega (arith, t .1, e), t .2)) z));
         }
 
 -- ---- what the code needs of the arrays
 
 -- joined vertices, in the rooted forest
-pub joins : (args arities toward by rank lefts rights : List ℕ) (inb derived : List Bool) (count : ℕ) (ts : List Term) (ls : List Literal) (table : List Term) (G : Graph) → Drawn args arities toward by rank lefts rights inb derived count ts ls table G → {u v : ℕ} → T (joined G u v) → Joining toward by rank u v G
-joins args arities toward by rank lefts rights inb derived count ts ls table G d j = record { forest = sound-forest ts ls table G (d .sound); rooted = d .rooted; join = j }
+pub joins : (arrays : Drawing) (ts : List Term) (ls : List Literal) (table : List Term) (G : Graph) → Drawn arrays ts ls table G → {u v : ℕ} → T (joined G u v) → Joining (arrays .toward) (arrays .by) (arrays .rank) u v G
+joins arrays ts ls table G d j = record { forest = sound-forest ts ls table G (d .sound); rooted = d .rooted; join = j }
 
-module _ (args arities toward by rank lefts rights : List ℕ) (inb derived : List Bool) (count i : ℕ) (h : i < count) where
+module _ (arrays : Drawing) (i : ℕ) (h : i < arrays .count) where
   -- the places that the edge leads to are in the arrays
   pub record Bounds : Type 0 where
     pub number-low : i < 510
-    pub left-low : getD lefts i 0 < 511
-    pub right-low : getD rights i 0 < 511
-    pub arity-low : getD arities (getD lefts i 0) 0 ≤ 4
+    pub left-low : getD (arrays .lefts) i 0 < 511
+    pub right-low : getD (arrays .rights) i 0 < 511
+    pub arity-low : arityAt arrays i ≤ 4
 
   -- they are, where a graph is drawn
-  pub bounds : DrawnSome args arities toward by rank lefts rights inb derived count → Bounds
+  pub bounds : DrawnSome arrays → Bounds
   bounds s =
       let d = s .4 in
-      let r = edge-read args arities toward by rank lefts rights inb derived count (s .0) (s .1) (s .2) (s .3) d i h in
+      let r = edge-read arrays (s .0) (s .1) (s .2) (s .3) d i h in
       record {
         number-low = omega (arith, d .few);
         left-low = omega (arith, r .left-low, d .small);
         right-low = omega (arith, r .right-low, d .small);
-        arity-low = d .arity (getD lefts i 0) (r .left-low);
+        arity-low = d .arity (getD (arrays .lefts) i 0) (r .left-low);
       }
 
-  module _ (is : getD derived i false ≡ true) (j : ℕ) (l : j < getD arities (getD lefts i 0) 0) where
+  module _ (is : getD (arrays .derived) i false ≡ true) (j : ℕ) (l : j < arityAt arrays i) where
     -- the paired arguments are joined in the rooted forest
-    pub joining : (ts : List Term) (ls : List Literal) (table : List Term) (G : Graph) → Drawn args arities toward by rank lefts rights inb derived count ts ls table G → Joining toward by rank (argAt args lefts i j) (argAt args rights i j) G
-    joining ts ls table G d = joins args arities toward by rank lefts rights inb derived count ts ls table G d (paired args arities toward by rank lefts rights inb derived count ts ls table G d i h is j l .join)
+    pub joining : (ts : List Term) (ls : List Literal) (table : List Term) (G : Graph) → Drawn arrays ts ls table G → Joining (arrays .toward) (arrays .by) (arrays .rank) (leftAt arrays i j) (rightAt arrays i j) G
+    joining ts ls table G d = joins arrays ts ls table G d (paired arrays ts ls table G d i h is j l .join)
 
     -- so the path between them is asked for
-    pub path-asked : DrawnSome args arities toward by rank lefts rights inb derived count → (argAt args lefts i j < 511) × (argAt args rights i j < 511) × ((G : Graph) × Joining toward by rank (argAt args lefts i j) (argAt args rights i j) G)
+    pub path-asked : DrawnSome arrays → (leftAt arrays i j < 511) × (rightAt arrays i j < 511) × ((G : Graph) × Joining (arrays .toward) (arrays .by) (arrays .rank) (leftAt arrays i j) (rightAt arrays i j) G)
     path-asked s =
-        let p = paired args arities toward by rank lefts rights inb derived count (s .0) (s .1) (s .2) (s .3) (s .4) i h is j l in
+        let p = paired arrays (s .0) (s .1) (s .2) (s .3) (s .4) i h is j l in
         (p .left-small, p .right-small, (s .3, joining (s .0) (s .1) (s .2) (s .3) (s .4)))
 
     -- and read
-    pub path-given : (r : Trail) → ((G : Graph) → Joining toward by rank (argAt args lefts i j) (argAt args rights i j) G → TrailOf G (argAt args lefts i j) (argAt args rights i j) r) → (ts : List Term) (ls : List Literal) (table : List Term) (G : Graph) (d : Drawn args arities toward by rank lefts rights inb derived count ts ls table G) → PathRead args arities toward by rank lefts rights inb derived count ts ls table G d (argAt args lefts i j) (argAt args rights i j) (r .hops) (r .stops) (r .edges)
+    pub path-given : (r : Trail) → ((G : Graph) → Joining (arrays .toward) (arrays .by) (arrays .rank) (leftAt arrays i j) (rightAt arrays i j) G → TrailOf G (leftAt arrays i j) (rightAt arrays i j) r) → (ts : List Term) (ls : List Literal) (table : List Term) (G : Graph) (d : Drawn arrays ts ls table G) → PathRead arrays ts ls table G d (leftAt arrays i j) (rightAt arrays i j) (r .hops) (r .stops) (r .edges)
     path-given r t ts ls table G d =
-        let p = paired args arities toward by rank lefts rights inb derived count ts ls table G d i h is j l in
-        path-read args arities toward by rank lefts rights inb derived count ts ls table G d (argAt args lefts i j) (argAt args rights i j) (p .left-small) (p .join) r (t G (joining ts ls table G d))
+        let p = paired arrays ts ls table G d i h is j l in
+        path-read arrays ts ls table G d (leftAt arrays i j) (rightAt arrays i j) (p .left-small) (p .join) r (t G (joining ts ls table G d))
 
 -- ---- the pass over the edges
+
+-- an edge whose parent paths are asked for is derived
+pub asked-derived : (x y : Bool) → (x && y) ≡ true → x ≡ true
+asked-derived x y e = passed x (and-left x y (passes (x && y) e))
 
 -- what is reached without a path's own factors is reached with them
 pub reached-more : {table : List Term} {b : Bool} {p : Pair} {mode : Bool} {π : Path} → Reached table b p mode π → Reached table b p true π
@@ -445,21 +450,21 @@ basic-nothing lefts rights inb derived table G d b mode p i e x = go (x .0 .kind
     go Basic q m = List·Memᴰ·not-nil m
     go Derived q m = let z : _≡_ {A = ℕ} 0 1 = cc in omega arith
 
-module _ (args arities toward by rank lefts rights : List ℕ) (inb derived : List Bool) (count : ℕ) (b : Bool) where
+module _ (arrays : Drawing) (b : Bool) where
   -- the edges from number i on are read
   pub record SettledTo (pairs₀ rows₀ inside₀ under₀ : List Bool) (i : ℕ) (pairs rows inside under : List Bool) : Type 0 where
-    pub within : i ≤ count
+    pub within : i ≤ arrays .count
     pub in-order : InOrder pairs rows inside under
     pub cover : Covered pairs₀ rows₀ → Covered pairs rows
-    pub owed : (ts : List Term) (ls : List Literal) (table : List Term) (G : Graph) → Drawn args arities toward by rank lefts rights inb derived count ts ls table G → (p : Pair) → PairWithin 511 p → Owed table G b pairs inside under i p ↔ Owed table G b pairs₀ inside₀ under₀ count p
+    pub owed : (ts : List Term) (ls : List Literal) (table : List Term) (G : Graph) → Drawn arrays ts ls table G → (p : Pair) → PairWithin 511 p → Owed table G b pairs inside under i p ↔ Owed table G b pairs₀ inside₀ under₀ (arrays .count) p
 
   -- no edge yet
-  pub settle-none : (pairs rows inside under : List Bool) → InOrder pairs rows inside under → SettledTo pairs rows inside under count pairs rows inside under
+  pub settle-none : (pairs rows inside under : List Bool) → InOrder pairs rows inside under → SettledTo pairs rows inside under (arrays .count) pairs rows inside under
   settle-none pairs rows inside under o = record { within = omega arith; in-order = o; cover = λ c. c; owed = λ ts ls table G d p w. (λ x. x, λ x. x) }
 
   module _ (pairs₀ rows₀ inside₀ under₀ : List Bool) (n : ℕ) (pairs rows inside under : List Bool) (some : 0 < n) (x : SettledTo pairs₀ rows₀ inside₀ under₀ n pairs rows inside under) where
     -- a turn at the edge n - 1 after which what is owed below it is what was, and what the edge owed
-    settle-turn : (pairs′ rows′ inside′ under′ : List Bool) → InOrder pairs′ rows′ inside′ under′ → (Covered pairs rows → Covered pairs′ rows′) → ((ts : List Term) (ls : List Literal) (table : List Term) (G : Graph) → Drawn args arities toward by rank lefts rights inb derived count ts ls table G → (p : Pair) → PairWithin 511 p → Owed table G b pairs′ inside′ under′ (n - 1) p ↔ (Owed table G b pairs inside under (n - 1) p ⊎ OwedBy table G b inside under (n - 1) p)) → SettledTo pairs₀ rows₀ inside₀ under₀ (n - 1) pairs′ rows′ inside′ under′
+    settle-turn : (pairs′ rows′ inside′ under′ : List Bool) → InOrder pairs′ rows′ inside′ under′ → (Covered pairs rows → Covered pairs′ rows′) → ((ts : List Term) (ls : List Literal) (table : List Term) (G : Graph) → Drawn arrays ts ls table G → (p : Pair) → PairWithin 511 p → Owed table G b pairs′ inside′ under′ (n - 1) p ↔ (Owed table G b pairs inside under (n - 1) p ⊎ OwedBy table G b inside under (n - 1) p)) → SettledTo pairs₀ rows₀ inside₀ under₀ (n - 1) pairs′ rows′ inside′ under′
     settle-turn pairs′ rows′ inside′ under′ o c f =
         record {
           within = omega (arith, x .within);
@@ -469,31 +474,50 @@ module _ (args arities toward by rank lefts rights : List ℕ) (inb derived : Li
         }
 
     -- an edge whose parent paths are read whole: that covers their premises' clauses
-    pub settle-whole : (pairs′ rows′ inside′ under′ : List Bool) → getD inside (n - 1) false ≡ true → EdgeSettled args arities toward by rank lefts rights inb derived count (n - 1) b true pairs rows inside under pairs′ rows′ inside′ under′ → SettledTo pairs₀ rows₀ inside₀ under₀ (n - 1) pairs′ rows′ inside′ under′
+    settle-whole : (pairs′ rows′ inside′ under′ : List Bool) → getD inside (n - 1) false ≡ true → EdgeSettled arrays (n - 1) b true pairs rows inside under pairs′ rows′ inside′ under′ → SettledTo pairs₀ rows₀ inside₀ under₀ (n - 1) pairs′ rows′ inside′ under′
     settle-whole pairs′ rows′ inside′ under′ e s =
         settle-turn pairs′ rows′ inside′ under′ (s .in-order) (s .cover)
         (λ ts ls table G d p w. let y = s .owed ts ls table G d p w in (λ z. ⊎-elim inl (λ q. inr (inl (passes (getD inside (n - 1) false) e, q))) (y .0 z), λ z. y .1 (⊎-elim inl (λ q. inr (⊎-elim (λ a. a .1) (λ a. (a .1 .0, a .1 .1, a .1 .2, (a .1 .3 .0, a .1 .3 .1, reached-more (a .1 .3 .2)))) q)) z)))
 
     -- an edge whose parent paths' own factors do not count
-    pub settle-under : (pairs′ rows′ inside′ under′ : List Bool) → getD inside (n - 1) false ≡ false → getD under (n - 1) false ≡ true → EdgeSettled args arities toward by rank lefts rights inb derived count (n - 1) b false pairs rows inside under pairs′ rows′ inside′ under′ → SettledTo pairs₀ rows₀ inside₀ under₀ (n - 1) pairs′ rows′ inside′ under′
+    settle-under : (pairs′ rows′ inside′ under′ : List Bool) → getD inside (n - 1) false ≡ false → getD under (n - 1) false ≡ true → EdgeSettled arrays (n - 1) b false pairs rows inside under pairs′ rows′ inside′ under′ → SettledTo pairs₀ rows₀ inside₀ under₀ (n - 1) pairs′ rows′ inside′ under′
     settle-under pairs′ rows′ inside′ under′ e u s =
         settle-turn pairs′ rows′ inside′ under′ (s .in-order) (s .cover)
         (λ ts ls table G d p w. let y = s .owed ts ls table G d p w in (λ z. ⊎-elim inl (λ q. inr (inr (passes (getD under (n - 1) false) u, q))) (y .0 z), λ z. y .1 (⊎-elim inl (λ q. inr (⊎-elim (λ a. absurd (subst T e (a .0))) (λ a. a .1) q)) z)))
 
     -- an edge that is not marked
-    pub settle-unmarked : getD inside (n - 1) false ≡ false → getD under (n - 1) false ≡ false → SettledTo pairs₀ rows₀ inside₀ under₀ (n - 1) pairs rows inside under
+    settle-unmarked : getD inside (n - 1) false ≡ false → getD under (n - 1) false ≡ false → SettledTo pairs₀ rows₀ inside₀ under₀ (n - 1) pairs rows inside under
     settle-unmarked e u =
         settle-turn pairs rows inside under (x .in-order) (λ c. c)
         (λ ts ls table G d p w. (inl, λ z. ⊎-elim (λ y. y) (λ q. absurd (⊎-elim (λ a. subst T e (a .0)) (λ a. subst T u (a .0)) q)) z))
 
     -- an edge that is not derived
-    pub settle-basic : getD derived (n - 1) false ≡ false → SettledTo pairs₀ rows₀ inside₀ under₀ (n - 1) pairs rows inside under
+    settle-basic : getD (arrays .derived) (n - 1) false ≡ false → SettledTo pairs₀ rows₀ inside₀ under₀ (n - 1) pairs rows inside under
     settle-basic e =
         settle-turn pairs rows inside under (x .in-order) (λ c. c)
-        (λ ts ls table G d p w. (inl, λ z. ⊎-elim (λ y. y) (λ q. absurd (⊎-elim (λ a. basic-nothing lefts rights inb derived table G (d .edges) b true p (n - 1) e (a .1)) (λ a. basic-nothing lefts rights inb derived table G (d .edges) b false p (n - 1) e (a .1)) q)) z))
+        (λ ts ls table G d p w. (inl, λ z. ⊎-elim (λ y. y) (λ q. absurd (⊎-elim (λ a. basic-nothing (arrays .lefts) (arrays .rights) (arrays .inb) (arrays .derived) table G (d .edges) b true p (n - 1) e (a .1)) (λ a. basic-nothing (arrays .lefts) (arrays .rights) (arrays .inb) (arrays .derived) table G (d .edges) b false p (n - 1) e (a .1)) q)) z))
+
+    -- an edge whose parent paths are asked for
+    pub settle-asked : (pairs′ rows′ inside′ under′ : List Bool) → (getD (arrays .derived) (n - 1) false && (getD inside (n - 1) false || getD under (n - 1) false)) ≡ true → EdgeSettled arrays (n - 1) b (getD inside (n - 1) false) pairs rows inside under pairs′ rows′ inside′ under′ → SettledTo pairs₀ rows₀ inside₀ under₀ (n - 1) pairs′ rows′ inside′ under′
+    settle-asked pairs′ rows′ inside′ under′ e s = go (getD inside (n - 1) false) refl e s
+      where
+        go : (y : Bool) → getD inside (n - 1) false ≡ y → (getD (arrays .derived) (n - 1) false && (y || getD under (n - 1) false)) ≡ true → EdgeSettled arrays (n - 1) b y pairs rows inside under pairs′ rows′ inside′ under′ → SettledTo pairs₀ rows₀ inside₀ under₀ (n - 1) pairs′ rows′ inside′ under′
+        go true q e s = settle-whole pairs′ rows′ inside′ under′ q s
+        go false q e s =
+            let u = getD under (n - 1) false in
+            settle-under pairs′ rows′ inside′ under′ q (passed u (and-right (getD (arrays .derived) (n - 1) false) u (passes (getD (arrays .derived) (n - 1) false && u) e))) s
+
+    -- one whose are not
+    pub settle-left : (getD (arrays .derived) (n - 1) false && (getD inside (n - 1) false || getD under (n - 1) false)) ≡ false → SettledTo pairs₀ rows₀ inside₀ under₀ (n - 1) pairs rows inside under
+    settle-left e = go (getD (arrays .derived) (n - 1) false) refl (getD inside (n - 1) false) refl e
+      where
+        go : (x : Bool) → getD (arrays .derived) (n - 1) false ≡ x → (y : Bool) → getD inside (n - 1) false ≡ y → (x && (y || getD under (n - 1) false)) ≡ false → SettledTo pairs₀ rows₀ inside₀ under₀ (n - 1) pairs rows inside under
+        go false q y r e = settle-basic q
+        go true q false r e = settle-unmarked r e
+        go true q true r e = let z : _≡_ {A = ℕ} 0 1 = cc in absurd (omega arith)
 
   -- all edges: what was owed is marked
-  pub settle-all : (pairs₀ rows₀ inside₀ under₀ : List Bool) (i : ℕ) (pairs rows inside under : List Bool) → i ≤ 0 → SettledTo pairs₀ rows₀ inside₀ under₀ i pairs rows inside under → Settled args arities toward by rank lefts rights inb derived count b pairs₀ rows₀ inside₀ under₀ pairs rows inside under
+  pub settle-all : (pairs₀ rows₀ inside₀ under₀ : List Bool) (i : ℕ) (pairs rows inside under : List Bool) → i ≤ 0 → SettledTo pairs₀ rows₀ inside₀ under₀ i pairs rows inside under → Settled arrays b pairs₀ rows₀ inside₀ under₀ pairs rows inside under
   settle-all pairs₀ rows₀ inside₀ under₀ i pairs rows inside under e x =
       record {
         in-order = x .in-order;

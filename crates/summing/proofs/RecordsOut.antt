@@ -82,12 +82,6 @@ puts-length at (r ∷ rs) out e = puts-length (at + 1) rs (putRecord at r out) (
 pub premises-length : (ps : List Pair) (at : ℕ) (out : List ℕ) (n : ℕ) (out′ : List ℕ) → PremisesOut ps at out n out′ → length out′ ≡ length out
 premises-length ps at out n out′ o = ap length (o .bytes) ∙ puts-length at (map (clauseRecord 1) ps) out (λ r m. let q = Memᴰ·of-map (clauseRecord 1) ps m in ap length (sym (q .2)) ∙ record-length 1 (q .0))
 
--- an empty buffer stays empty
-pub put-nothing : (at : ℕ) (rs : List (List ℕ)) → putRecords at rs [] ≡ []
-unfolding putRecords
-put-nothing at [] = refl
-put-nothing at (r ∷ rs) = ap (putRecords (at + 1) rs) (put-not at r [] (omega arith)) ∙ put-nothing (at + 1) rs
-
 -- ---- the members of a list that pass a test
 
 module _ {ℓ} {A : Type ℓ} (p : A → Bool) where

@@ -3,7 +3,7 @@ use mathlib.Core.Bool.{Bool, true, false, cond, not}
 use mathlib.Core.List.{List, [], _∷_, _++_, map, flatMap, append-assoc, append-nil, List·Memᴰ, List·Memᴰ·head, List·Memᴰ·tail, List·Memᴰ·not-nil}
 use mathlib.Core.Logic.{_⊎_, inl, inr, ⊎-elim, _↔_}
 use mathlib.Core.Path.{_≡_, refl, sym, ap, ap₂, subst, _∙_}
-use Prim.Native.Nat.{ℕ, _*_, _≤_, _<_}
+use Prim.Native.Nat.{ℕ, _*_, _/_, _≤_, _<_}
 use native.Mathlib.Omega.{arith}
 use borrow.Author.Tests.{lt-ltb, le-ltb, lt-leb, le-leb}
 use lib.Dec.{T, not-T}
@@ -28,18 +28,19 @@ use Rattle.clauses.specs.Clauses.{between, Clause, Conclusion, equals, differs,
 use Rattle.clauses.specs.Premises.{premises, pathClauses}
 use Rattle.clauses.specs.Reading.{Stretches, stretches, endOf, notMiddle, clausesIn, outerPremises, readA, readBetween}
 use Rattle.clauses.specs.Records.{ascending, concluding, isLast, firstAlone, inOrder, standing, recordsOf, clauseRecords}
+use Rattle.summing.specs.declared.drawing.Drawing.{Drawing}
 use Rattle.summing.specs.Marks.{Reached, across, along, PairWithin, placeOf, PairMarked, Trailed, done, step}
 use Rattle.summing.specs.Drawn.{DrawnSome}
 use Rattle.summing.specs.Writing.{marked}
-use Rattle.summing.specs.Written.{clauseOf, clauseOut, RecordsPut, Readable, FirstB, LastB, Concluding, notAt, LastPut, Clear, ClausesPut, Asking, AskingSome, sideOf, Summarised}
+use Rattle.summing.specs.Written.{clauseOf, clauseOut, RecordsPut, Readable, FirstB, LastB, Concluding, notAt, LastPut, Clear, ClausesPut, Asking, AskingSome, sideOf, AllPut, Summarised}
 use Rattle.clauses.proofs.Meaning.{path-enough}
 use Rattle.clauses.proofs.Stretches.{Divided, stretches-divided}
 use Rattle.clauses.proofs.Interpolation.{lastClause, ReadingA, of-middle, of-outer, of-last, readA-mem, mem-readA}
 use Rattle.clauses.proofs.Order.{concludes-eq, eq-concludes, ascending-agree}
-use Rattle.clauses.proofs.OneClause.{OfPath, FromPaths, from-paths-premises, read-from-paths, listed-of-path, walk-enough, premisesIn-mean, outerPremises-mean}
+use Rattle.clauses.proofs.OneClause.{OfPath, FromPaths, from-paths-premises, read-from-paths, listed-of-path, walk-enough, premise-within, premisesIn-mean, outerPremises-mean}
 use Rattle.summing.proofs.ClausesOut.{none-marked, flatMap-append, records-append}
 use Rattle.summing.proofs.Owing.{PathRead, path-read, joins}
-use Rattle.summing.proofs.RecordsOut.{keep-none, put-nothing, puts-fit}
+use Rattle.summing.proofs.RecordsOut.{keep-none, puts-fit}
 use Rattle.clauses.proofs.Records.{clauseBytes, clauseRecords-eight}
 use Rattle.summing.proofs.Trails.{trailed-forward}
 use Rattle.summing.proofs.Stretching.{stretches-cut}
@@ -229,7 +230,7 @@ not-middle-at inb stops edges hi {lo} (step {h = h} {π = π} a b c d t) =
     ap₂ (λ (x y : ℕ). differs (between x y)) (sym a) (ap (λ (n : ℕ). endOf n π) (sym b) ∙ trailed-end inb stops edges hi t) ∙
     sym (ap (λ (t : Bool). cond t (differs (between (getD stops lo 0) (getD stops hi 0))) falsum) (lt-ltb lo hi (trailed-forward inb stops edges hi t)))
 
-module _ (args arities toward by rank lefts rights : List ℕ) (inb derived : List Bool) (count n : ℕ) (colours : List ℕ) (s t : ℕ) (ts : List Term) (ls : List Literal) (table : List Term) (G : Graph) (x : Asking args arities toward by rank lefts rights inb derived count n colours s t ts ls table G) (stops edges : List ℕ) (hops : ℕ) (trail : Trailed inb stops edges hops 0 (path G s t)) where
+module _ (arrays : Drawing) (n : ℕ) (colours : List ℕ) (s t : ℕ) (ts : List Term) (ls : List Literal) (table : List Term) (G : Graph) (x : Asking arrays n colours s t ts ls table G) (stops edges : List ℕ) (hops : ℕ) (trail : Trailed (arrays .inb) stops edges hops 0 (path G s t)) where
   -- the clauses of a disequality of a side
   abbrev clausesOf : Side → List Clause
   clausesOf X = readBetween ts ls table G X s t
@@ -244,7 +245,7 @@ module _ (args arities toward by rank lefts rights : List ℕ) (inb derived : Li
 
   module _ (X : Side) (pairs : List Bool) (small : n ≤ 511) (marks : (p : Pair) → PairWithin 511 p → PairMarked pairs p ↔ ((c : Clause) × List·Memᴰ c (clausesOf X) × (c .conclusion ≡ equals p))) where
     -- so the marked pairs are joined
-    pub marked-readable : Readable args arities toward by rank lefts rights inb derived count n (PairMarked pairs) ts ls table G
+    pub marked-readable : Readable arrays n (PairMarked pairs) ts ls table G
     marked-readable = record { drawn = x .drawn; terms = x .terms; connected = λ p w m. concluded-joined X p (marks p (w .0, omega (arith, w .1)) .0 m) }
 
     -- and all records are those of the marked pairs, and of a last clause
@@ -254,13 +255,13 @@ module _ (args arities toward by rank lefts rights : List ℕ) (inb derived : Li
   -- ---- in B
 
   -- what is marked is what the clauses conclude
-  pub marks-B : (pairs rows : List Bool) → Concluding args arities toward by rank lefts rights inb derived count stops edges 0 hops hops pairs rows → (p : Pair) → PairWithin 511 p → PairMarked pairs p ↔ ((c : Clause) × List·Memᴰ c (clausesOf B) × (c .conclusion ≡ equals p))
+  pub marks-B : (pairs rows : List Bool) → Concluding arrays stops edges 0 hops hops pairs rows → (p : Pair) → PairWithin 511 p → PairMarked pairs p ↔ ((c : Clause) × List·Memᴰ c (clausesOf B) × (c .conclusion ≡ equals p))
   marks-B pairs rows c p w =
       let m = c .marks ts ls table G (x .drawn) [] (path G s t) [] (λ h k. absurd (List·Memᴰ·not-nil k)) (λ h k. path-hop G s t k) (λ h k. absurd (List·Memᴰ·not-nil k)) (done refl) trail (done refl) p w in
       let r = conclusions-B ts ls table G (x .drawn .sound) s t (x .join) p in
       (λ y. r .1 (⊎-elim (λ z. z) (λ z. absurd (⊎-elim (nothing-reached table false p refl) (nothing-reached table false p refl) z)) (m .0 y)), λ y. m .1 (inl (r .0 y)))
 
-  pub records-B : (pairs rows : List Bool) → n ≤ 511 → Concluding args arities toward by rank lefts rights inb derived count stops edges 0 hops hops pairs rows → clauseRecords n (clausesOf B) ≡ flatMap (clauseOut n table G) (keep (marked pairs) (pairsBelow n))
+  pub records-B : (pairs rows : List Bool) → n ≤ 511 → Concluding arrays stops edges 0 hops hops pairs rows → clauseRecords n (clausesOf B) ≡ flatMap (clauseOut n table G) (keep (marked pairs) (pairsBelow n))
   unfolding flatMap firstAlone
   records-B pairs rows small c =
       written-are B pairs small (marks-B pairs rows c) ∙
@@ -287,30 +288,30 @@ module _ (args arities toward by rank lefts rights : List ℕ) (inb derived : Li
     inside k l h = passes (colourable ts ls B table (getD stops k 0)) (x .coloured (getD stops k 0) (stops-in k l) ∙ le-leb 2 (getD colours (getD stops k 0) 0) h)
 
     -- a trail with a hop begins at its first side
-    start-at : (π : Path) → Trailed inb stops edges hops 0 π → Walk G s t π → (π ≡ []) ⊎ (s ≡ getD stops 0 0)
+    start-at : (π : Path) → Trailed (arrays .inb) stops edges hops 0 π → Walk G s t π → (π ≡ []) ⊎ (s ≡ getD stops 0 0)
     start-at π (done e) w = inl refl
     start-at π (step a b c d y) (hop k q w) = inr (q ∙ sym a)
 
     -- they are the code's
-    pub cut-trailed : Trailed inb stops edges lo 0 (cut .before) × Trailed inb stops edges hi lo (cut .middle) × Trailed inb stops edges hops hi (cut .after)
+    pub cut-trailed : Trailed (arrays .inb) stops edges lo 0 (cut .before) × Trailed (arrays .inb) stops edges hi lo (cut .middle) × Trailed (arrays .inb) stops edges hops hi (cut .after)
     unfolding stretches
     cut-trailed = go (path G s t) (start-at (path G s t) trail (path-walk G s t (x .join))) trail
       where
-        go : (π : Path) → (π ≡ []) ⊎ (s ≡ getD stops 0 0) → Trailed inb stops edges hops 0 π → Trailed inb stops edges lo 0 (stretches (colourable ts ls B table) s π .before) × Trailed inb stops edges hi lo (stretches (colourable ts ls B table) s π .middle) × Trailed inb stops edges hops hi (stretches (colourable ts ls B table) s π .after)
+        go : (π : Path) → (π ≡ []) ⊎ (s ≡ getD stops 0 0) → Trailed (arrays .inb) stops edges hops 0 π → Trailed (arrays .inb) stops edges lo 0 (stretches (colourable ts ls B table) s π .before) × Trailed (arrays .inb) stops edges hi lo (stretches (colourable ts ls B table) s π .middle) × Trailed (arrays .inb) stops edges hops hi (stretches (colourable ts ls B table) s π .after)
         go π (inr e) y =
-            stretches-cut (colourable ts ls B table) inb stops edges hops s lo hi e (omega arith) (last .after) (last .within) (λ k a l. outside k (omega (arith, l, first .within)) (first .outside k l)) (λ l. inside lo (omega (arith, l)) (first .found l)) (λ k l m. outside k m (last .outside k l m)) (λ l. inside hi (last .within) (last .found l)) y
+            stretches-cut (colourable ts ls B table) (arrays .inb) stops edges hops s lo hi e (omega arith) (last .after) (last .within) (λ k a l. outside k (omega (arith, l, first .within)) (first .outside k l)) (λ l. inside lo (omega (arith, l)) (first .found l)) (λ k l m. outside k m (last .outside k l m)) (λ l. inside hi (last .within) (last .found l)) y
         go π (inl e) y =
             let none : 0 ≡ hops = ends-now π e y in
             let at-lo : 0 ≡ lo = omega (arith, none, first .within) in
             let at-hi : lo ≡ hi = omega (arith, none, first .within, last .within, last .after) in
             let to-end : hi ≡ hops = omega (arith, none, last .within) in
-            subst (λ (π : Path). Trailed inb stops edges lo 0 (stretches (colourable ts ls B table) s π .before) × Trailed inb stops edges hi lo (stretches (colourable ts ls B table) s π .middle) × Trailed inb stops edges hops hi (stretches (colourable ts ls B table) s π .after)) (sym e) (empty-cut at-lo at-hi to-end)
+            subst (λ (π : Path). Trailed (arrays .inb) stops edges lo 0 (stretches (colourable ts ls B table) s π .before) × Trailed (arrays .inb) stops edges hi lo (stretches (colourable ts ls B table) s π .middle) × Trailed (arrays .inb) stops edges hops hi (stretches (colourable ts ls B table) s π .after)) (sym e) (empty-cut at-lo at-hi to-end)
           where
-            ends-now : (π : Path) → π ≡ [] → Trailed inb stops edges hops 0 π → 0 ≡ hops
+            ends-now : (π : Path) → π ≡ [] → Trailed (arrays .inb) stops edges hops 0 π → 0 ≡ hops
             ends-now π e (done q) = q
             ends-now π e (step {h = h} a b c d y) = absurd (List·Memᴰ·not-nil (subst (List·Memᴰ h) e (List·Memᴰ·head refl)))
 
-            empty-cut : 0 ≡ lo → lo ≡ hi → hi ≡ hops → Trailed inb stops edges lo 0 (stretches (colourable ts ls B table) s [] .before) × Trailed inb stops edges hi lo (stretches (colourable ts ls B table) s [] .middle) × Trailed inb stops edges hops hi (stretches (colourable ts ls B table) s [] .after)
+            empty-cut : 0 ≡ lo → lo ≡ hi → hi ≡ hops → Trailed (arrays .inb) stops edges lo 0 (stretches (colourable ts ls B table) s [] .before) × Trailed (arrays .inb) stops edges hi lo (stretches (colourable ts ls B table) s [] .middle) × Trailed (arrays .inb) stops edges hops hi (stretches (colourable ts ls B table) s [] .after)
             empty-cut a b c = (done a, done b, done c)
 
     -- the last clause, as the code writes it
@@ -318,7 +319,7 @@ module _ (args arities toward by rank lefts rights : List ℕ) (inb derived : Li
     lastHere = record { premises = ascending n (outerPremises ts ls table G (stretches (colourable ts ls B table) s (path G s t))); conclusion = notAt stops lo hi }
 
     -- what is marked is what the clauses conclude
-    pub marks-A : (pairs rows : List Bool) → Concluding args arities toward by rank lefts rights inb derived count stops edges lo hi hops pairs rows → (p : Pair) → PairWithin 511 p → PairMarked pairs p ↔ ((c : Clause) × List·Memᴰ c (clausesOf A) × (c .conclusion ≡ equals p))
+    pub marks-A : (pairs rows : List Bool) → Concluding arrays stops edges lo hi hops pairs rows → (p : Pair) → PairWithin 511 p → PairMarked pairs p ↔ ((c : Clause) × List·Memᴰ c (clausesOf A) × (c .conclusion ≡ equals p))
     unfolding readBetween
     marks-A pairs rows c p w =
         let q = cut-trailed in
@@ -326,20 +327,23 @@ module _ (args arities toward by rank lefts rights : List ℕ) (inb derived : Li
         let r = conclusions-A ts ls table G (x .drawn .sound) s t (x .join) (colourable ts ls B table) cut divided p in
         (λ y. r .1 (m .0 y), λ y. m .1 (r .0 y))
 
-    pub records-A : (pairs rows : List Bool) → n ≤ 511 → Concluding args arities toward by rank lefts rights inb derived count stops edges lo hi hops pairs rows → clauseRecords n (clausesOf A) ≡ flatMap (clauseOut n table G) (keep (marked pairs) (pairsBelow n)) ++ recordsOf lastHere
+    pub records-A : (pairs rows : List Bool) → n ≤ 511 → Concluding arrays stops edges lo hi hops pairs rows → clauseRecords n (clausesOf A) ≡ flatMap (clauseOut n table G) (keep (marked pairs) (pairsBelow n)) ++ recordsOf lastHere
     unfolding flatMap readBetween
     records-A pairs rows small c =
-        let same : inOrder n (lastClause ts ls table G cut) ≡ lastHere = λ i. record { premises = ascending n (outerPremises ts ls table G cut); conclusion = not-middle-at inb stops edges hi (cut-trailed .1) i } in
+        let same : inOrder n (lastClause ts ls table G cut) ≡ lastHere = λ i. record { premises = ascending n (outerPremises ts ls table G cut); conclusion = not-middle-at (arrays .inb) stops edges hi (cut-trailed .1) i } in
         written-are A pairs small (marks-A pairs rows c) ∙
         ap (λ (l : List Clause). flatMap (clauseOut n table G) (keep (marked pairs) (pairsBelow n)) ++ flatMap (λ c. recordsOf (inOrder n c)) l) (lasts-A ts ls table G (x .drawn .sound) s t (x .join) (colourable ts ls B table) cut divided) ∙
         ap (λ (rs : List (List ℕ)). flatMap (clauseOut n table G) (keep (marked pairs) (pairsBelow n)) ++ rs) (append-nil (recordsOf (inOrder n (lastClause ts ls table G cut))) ∙ ap recordsOf same)
 
     -- the records of the last clause are put behind the others
-    pub summarised-A : (pairs rows : List Bool) → n ≤ 511 → Concluding args arities toward by rank lefts rights inb derived count stops edges lo hi hops pairs rows → (out out₁ out₂ : List ℕ) (r r′ : ℕ) → RecordsPut (flatMap (clauseOut n table G) (keep (marked pairs) (pairsBelow n))) 0 out r out₁ → LastPut args arities toward by rank lefts rights inb derived count n stops edges lo hi hops r out₁ r′ out₂ → RecordsPut (clauseRecords n (clausesOf A)) 0 out r′ out₂
-    summarised-A pairs rows small c out out₁ out₂ r r′ a b =
+    pub summarised-A : (pairs rows : List Bool) → n ≤ 511 → Concluding arrays stops edges lo hi hops pairs rows → (out out₁ out₂ : List ℕ) (r r′ : ℕ) → RecordsPut (flatMap (clauseOut n table G) (keep (marked pairs) (pairsBelow n))) 0 out r out₁ → (found : List Bool) → LastPut arrays n stops edges lo hi hops r out₁ r′ found out₂ → RecordsPut (clauseRecords n (clausesOf A)) 0 out r′ out₂ × Clear found
+    summarised-A pairs rows small c out out₁ out₂ r r′ a found b =
         let q = cut-trailed in
-        subst (λ (rs : List (List ℕ)). RecordsPut rs 0 out r′ out₂) (sym (records-A pairs rows small c))
-        (records-append (flatMap (clauseOut n table G) (keep (marked pairs) (pairsBelow n))) (recordsOf lastHere) 0 out r out₁ r′ out₂ a (b .written ts ls table G (x .drawn) (cut .before) (cut .after) (λ h k. walk-hop (divided .before-walk) k) (λ h k. walk-hop (divided .after-walk) k) (q .0) (q .2) (outerPremises ts ls table G cut) (λ p. outerPremises-mean ts ls table G s t cut divided p)))
+        let last = b .written ts ls table G (x .drawn) (cut .before) (cut .after) (λ h k. walk-hop (divided .before-walk) k) (λ h k. walk-hop (divided .after-walk) k) (q .0) (q .2) (outerPremises ts ls table G cut) (λ p. outerPremises-mean ts ls table G s t cut divided p) in (
+          subst (λ (rs : List (List ℕ)). RecordsPut rs 0 out r′ out₂) (sym (records-A pairs rows small c))
+              (records-append (flatMap (clauseOut n table G) (keep (marked pairs) (pairsBelow n))) (recordsOf lastHere) 0 out r out₁ r′ out₂ a (last .0)),
+          last .1 (λ p m. let within = ⊎-elim (premise-within ts ls table p (x .drawn .sound) (before-is ts ls table G (x .drawn .sound) s t (x .join) (colourable ts ls B table) cut divided)) (premise-within ts ls table p (x .drawn .sound) (after-is ts ls table G (x .drawn .sound) s t (x .join) (colourable ts ls B table) cut divided)) (outerPremises-mean ts ls table G s t cut divided p .0 m) in omega (arith, within .1, x .terms)),
+        )
 
 -- ---- what the writer asks
 
@@ -347,72 +351,87 @@ module _ (args arities toward by rank lefts rights : List ℕ) (inb derived : Li
 pub new-clear : Clear (replicate 261121 false)
 new-clear p w m = none-marked 261121 (placeOf p) m
 
-module _ (args arities toward by rank lefts rights : List ℕ) (inb derived : List Bool) (count n : ℕ) (colours : List ℕ) (s t : ℕ) (small : n ≤ 511) where
+module _ (arrays : Drawing) (n : ℕ) (colours : List ℕ) (s t : ℕ) (small : n ≤ 511) where
   -- what is asked, of a graph
   abbrev AskingHere : List Term → List Literal → List Term → Graph → Type 0
-  AskingHere ts ls table G = Asking args arities toward by rank lefts rights inb derived count n colours s t ts ls table G
+  AskingHere ts ls table G = Asking arrays n colours s t ts ls table G
 
   -- what is asked, of some graph
   abbrev SomeAsking : Type 0
-  SomeAsking = AskingSome args arities toward by rank lefts rights inb derived count n colours s t
+  SomeAsking = AskingSome arrays n colours s t
+
+  -- the records of a side's clauses are put over a buffer
+  abbrev SummaryPut : Side → List ℕ → ℕ → List ℕ → Type 0
+  SummaryPut X out k out′ = (ts : List Term) (ls : List Literal) (table : List Term) (G : Graph) → AskingHere ts ls table G → RecordsPut (clauseRecords n (readBetween ts ls table G X s t)) 0 out k out′
+
+  -- counted over another buffer, they are too many for this one
+  pub summary-counted : (X : Side) (none none′ out : List ℕ) (k : ℕ) → SummaryPut X none k none′ → length out / 8 < k → Summarised arrays n colours s t X out k out
+  summary-counted X none none′ out k put h = record {
+    records = λ ts ls table G x. let p = put ts ls table G x in record { count = omega (arith, p .count); bytes = λ r. absurd (omega (arith, p .count, h, r)); kept = λ r. refl };
+  }
+
+  -- or they have room, and are written
+  pub summary-written : (X : Side) (none none′ out out′ : List ℕ) (k k′ : ℕ) → SummaryPut X none k none′ → k ≤ length out / 8 → SummaryPut X out k′ out′ → Summarised arrays n colours s t X out k′ out′
+  summary-written X none none′ out out′ k k′ put h write = record {
+    records = λ ts ls table G x. let p = put ts ls table G x in let q = write ts ls table G x in record { count = omega (arith, q .count); bytes = λ r. q .bytes; kept = λ r. absurd (omega (arith, p .count, h, r)) };
+  }
 
   -- the path between the sides
-  pub sides-asked : SomeAsking → (s < 511) × (t < 511) × ((G : Graph) × Joining toward by rank s t G)
+  pub sides-asked : SomeAsking → (s < 511) × (t < 511) × ((G : Graph) × Joining (arrays .toward) (arrays .by) (arrays .rank) s t G)
   sides-asked a =
       let x = a .4 in
-      (omega (arith, x .left-within), omega (arith, x .right-within), (a .3, joins args arities toward by rank lefts rights inb derived count (a .0) (a .1) (a .2) (a .3) (x .drawn) (x .join)))
+      (omega (arith, x .left-within), omega (arith, x .right-within), (a .3, joins arrays (a .0) (a .1) (a .2) (a .3) (x .drawn) (x .join)))
 
   -- some graph is drawn
-  pub asked-drawn : SomeAsking → DrawnSome args arities toward by rank lefts rights inb derived count
+  pub asked-drawn : SomeAsking → DrawnSome arrays
   asked-drawn a = (a .0, a .1, a .2, a .3, a .4 .drawn)
 
-  module _ (r : Trail) (given : (G : Graph) → Joining toward by rank s t G → TrailOf G s t r) where
+  module _ (r : Trail) (given : (G : Graph) → Joining (arrays .toward) (arrays .by) (arrays .rank) s t G → TrailOf G s t r) where
     -- the trail between the sides
-    pub sides-read : (ts : List Term) (ls : List Literal) (table : List Term) (G : Graph) (x : AskingHere ts ls table G) → PathRead args arities toward by rank lefts rights inb derived count ts ls table G (x .drawn) s t (r .hops) (r .stops) (r .edges)
+    pub sides-read : (ts : List Term) (ls : List Literal) (table : List Term) (G : Graph) (x : AskingHere ts ls table G) → PathRead arrays ts ls table G (x .drawn) s t (r .hops) (r .stops) (r .edges)
     sides-read ts ls table G x =
-        path-read args arities toward by rank lefts rights inb derived count ts ls table G (x .drawn) s t (omega (arith, x .left-within)) (x .join) r (given G (joins args arities toward by rank lefts rights inb derived count ts ls table G (x .drawn) (x .join)))
+        path-read arrays ts ls table G (x .drawn) s t (omega (arith, x .left-within)) (x .join) r (given G (joins arrays ts ls table G (x .drawn) (x .join)))
 
     -- its stops are terms of the table
     pub sides-in : (ts : List Term) (ls : List Literal) (table : List Term) (G : Graph) → AskingHere ts ls table G → (k : ℕ) → k ≤ r .hops → getD (r .stops) k 0 < length table
     sides-in ts ls table G x = sides-read ts ls table G x .in-table (omega (arith, x .left-within, x .terms))
 
     -- the pairs that are marked are joined, in B
-    pub readable-B : (pairs rows : List Bool) → Concluding args arities toward by rank lefts rights inb derived count (r .stops) (r .edges) 0 (r .hops) (r .hops) pairs rows → (ts : List Term) (ls : List Literal) (table : List Term) (G : Graph) → AskingHere ts ls table G → Readable args arities toward by rank lefts rights inb derived count n (PairMarked pairs) ts ls table G
+    pub readable-B : (pairs rows : List Bool) → Concluding arrays (r .stops) (r .edges) 0 (r .hops) (r .hops) pairs rows → (ts : List Term) (ls : List Literal) (table : List Term) (G : Graph) → AskingHere ts ls table G → Readable arrays n (PairMarked pairs) ts ls table G
     readable-B pairs rows c ts ls table G x =
         let trail = sides-read ts ls table G x .trailed in
-        marked-readable args arities toward by rank lefts rights inb derived count n colours s t ts ls table G x (r .stops) (r .edges) (r .hops) trail B pairs small (marks-B args arities toward by rank lefts rights inb derived count n colours s t ts ls table G x (r .stops) (r .edges) (r .hops) trail pairs rows c)
+        marked-readable arrays n colours s t ts ls table G x (r .stops) (r .edges) (r .hops) trail B pairs small (marks-B arrays n colours s t ts ls table G x (r .stops) (r .edges) (r .hops) trail pairs rows c)
 
     -- the records in B
-    pub summary-B : (pairs rows : List Bool) → Concluding args arities toward by rank lefts rights inb derived count (r .stops) (r .edges) 0 (r .hops) (r .hops) pairs rows → (out out′ : List ℕ) (k : ℕ) (found : List Bool) → ClausesPut args arities toward by rank lefts rights inb derived count n (PairMarked pairs) (keep (marked pairs) (pairsBelow n)) 261121 0 out k found out′ → Summarised args arities toward by rank lefts rights inb derived count n colours s t B out k out′
-    summary-B pairs rows c out out′ k found y = record {
-      records = λ ts ls table G x.
-          subst (λ (rs : List (List ℕ)). RecordsPut rs 0 out k out′) (sym (records-B args arities toward by rank lefts rights inb derived count n colours s t ts ls table G x (r .stops) (r .edges) (r .hops) (sides-read ts ls table G x .trailed) pairs rows small c)) (y .written ts ls table G (readable-B pairs rows c ts ls table G x));
-    }
+    pub put-B : (pairs rows : List Bool) → Concluding arrays (r .stops) (r .edges) 0 (r .hops) (r .hops) pairs rows → (out out′ : List ℕ) (k : ℕ) (found : List Bool) → ClausesPut arrays n (PairMarked pairs) (keep (marked pairs) (pairsBelow n)) 261121 0 out k found out′ → SummaryPut B out k out′
+    put-B pairs rows c out out′ k found y ts ls table G x =
+        subst (λ (rs : List (List ℕ)). RecordsPut rs 0 out k out′) (sym (records-B arrays n colours s t ts ls table G x (r .stops) (r .edges) (r .hops) (sides-read ts ls table G x .trailed) pairs rows small c)) (y .written ts ls table G (readable-B pairs rows c ts ls table G x))
 
     module _ (lo hi : ℕ) (first : FirstB colours (r .stops) (r .hops) lo) (last : LastB colours (r .stops) lo (r .hops) hi) where
       -- and in A
-      pub readable-A : (pairs rows : List Bool) → Concluding args arities toward by rank lefts rights inb derived count (r .stops) (r .edges) lo hi (r .hops) pairs rows → (ts : List Term) (ls : List Literal) (table : List Term) (G : Graph) → AskingHere ts ls table G → Readable args arities toward by rank lefts rights inb derived count n (PairMarked pairs) ts ls table G
+      pub readable-A : (pairs rows : List Bool) → Concluding arrays (r .stops) (r .edges) lo hi (r .hops) pairs rows → (ts : List Term) (ls : List Literal) (table : List Term) (G : Graph) → AskingHere ts ls table G → Readable arrays n (PairMarked pairs) ts ls table G
       readable-A pairs rows c ts ls table G x =
           let trail = sides-read ts ls table G x .trailed in
-          marked-readable args arities toward by rank lefts rights inb derived count n colours s t ts ls table G x (r .stops) (r .edges) (r .hops) trail A pairs small (marks-A args arities toward by rank lefts rights inb derived count n colours s t ts ls table G x (r .stops) (r .edges) (r .hops) trail lo hi (sides-in ts ls table G x) first last pairs rows c)
+          marked-readable arrays n colours s t ts ls table G x (r .stops) (r .edges) (r .hops) trail A pairs small (marks-A arrays n colours s t ts ls table G x (r .stops) (r .edges) (r .hops) trail lo hi (sides-in ts ls table G x) first last pairs rows c)
 
-      -- the records in A
-      pub summary-A : (pairs rows : List Bool) → Concluding args arities toward by rank lefts rights inb derived count (r .stops) (r .edges) lo hi (r .hops) pairs rows → (out out₁ out₂ : List ℕ) (k k′ : ℕ) (found : List Bool) → ClausesPut args arities toward by rank lefts rights inb derived count n (PairMarked pairs) (keep (marked pairs) (pairsBelow n)) 261121 0 out k found out₁ → LastPut args arities toward by rank lefts rights inb derived count n (r .stops) (r .edges) lo hi (r .hops) k out₁ k′ out₂ → Summarised args arities toward by rank lefts rights inb derived count n colours s t A out k′ out₂
-      summary-A pairs rows c out out₁ out₂ k k′ found y z = record {
-        records = λ ts ls table G x.
-            summarised-A args arities toward by rank lefts rights inb derived count n colours s t ts ls table G x (r .stops) (r .edges) (r .hops) (sides-read ts ls table G x .trailed) lo hi (sides-in ts ls table G x) first last pairs rows small c out out₁ out₂ k k′ (y .written ts ls table G (readable-A pairs rows c ts ls table G x)) z;
-      }
+      module _ (pairs rows : List Bool) (c : Concluding arrays (r .stops) (r .edges) lo hi (r .hops) pairs rows) (out out₁ out₂ : List ℕ) (k k′ : ℕ) (found found′ : List Bool) (y : ClausesPut arrays n (PairMarked pairs) (keep (marked pairs) (pairsBelow n)) 261121 0 out k found out₁) (z : LastPut arrays n (r .stops) (r .edges) lo hi (r .hops) k out₁ k′ found′ out₂) where
+        -- the records in A, with no premise left marked
+        put-clear : (ts : List Term) (ls : List Literal) (table : List Term) (G : Graph) → AskingHere ts ls table G → RecordsPut (clauseRecords n (readBetween ts ls table G A s t)) 0 out k′ out₂ × Clear found′
+        put-clear ts ls table G x =
+            summarised-A arrays n colours s t ts ls table G x (r .stops) (r .edges) (r .hops) (sides-read ts ls table G x .trailed) lo hi (sides-in ts ls table G x) first last pairs rows small c out out₁ out₂ k k′ (y .written ts ls table G (readable-A pairs rows c ts ls table G x)) found′ z
+
+        pub put-A : SummaryPut A out k′ out₂
+        put-A ts ls table G x = put-clear ts ls table G x .0
+
+        pub clear-A : SomeAsking → Clear found′
+        clear-A a = put-clear (a .0) (a .1) (a .2) (a .3) (a .4) .1
 
   -- the side under another name
-  pub side-named : (out out′ : List ℕ) (r : ℕ) (b b′ : Bool) → b′ ≡ b → Summarised args arities toward by rank lefts rights inb derived count n colours s t (sideOf b) out r out′ → Summarised args arities toward by rank lefts rights inb derived count n colours s t (sideOf b′) out r out′
-  side-named out out′ r b b′ e x = subst (λ (y : Bool). Summarised args arities toward by rank lefts rights inb derived count n colours s t (sideOf y) out r out′) (sym e) x
+  pub side-named : (out out′ : List ℕ) (r : ℕ) (b b′ : Bool) → b′ ≡ b → Summarised arrays n colours s t (sideOf b) out r out′ → Summarised arrays n colours s t (sideOf b′) out r out′
+  side-named out out′ r b b′ e x = subst (λ (y : Bool). Summarised arrays n colours s t (sideOf y) out r out′) (sym e) x
 
 -- ---- what comes back, and the bytes
 
--- over an empty buffer the records are counted
-pub records-counted : (n : ℕ) (cs : List Clause) (r : ℕ) (out′ : List ℕ) → RecordsPut (clauseRecords n cs) 0 [] r out′ → (r ≡ length (clauseRecords n cs)) × (out′ ≡ [])
-records-counted n cs r out′ x = (omega (arith, x .count), x .bytes ∙ put-nothing 0 (clauseRecords n cs))
-
--- over one that is long enough they are written, and the bytes behind them stay
-pub records-written : (n : ℕ) (cs : List Clause) (out : List ℕ) (r : ℕ) (out′ : List ℕ) → 8 * length (clauseRecords n cs) ≤ length out → RecordsPut (clauseRecords n cs) 0 out r out′ → (r ≡ length (clauseRecords n cs)) × (out′ ≡ clauseBytes n cs ++ drop (8 * length (clauseRecords n cs)) out)
-records-written n cs out r out′ h x = (omega (arith, x .count), x .bytes ∙ puts-fit (clauseRecords n cs) out (clauseRecords-eight n cs) h)
+-- records that have room are written, and the bytes behind them stay
+pub records-written : (n : ℕ) (cs : List Clause) (out : List ℕ) (r : ℕ) (out′ : List ℕ) → 8 * length (clauseRecords n cs) ≤ length out → AllPut (clauseRecords n cs) out r out′ → out′ ≡ clauseBytes n cs ++ drop (8 * length (clauseRecords n cs)) out
+records-written n cs out r out′ h x = x .bytes h ∙ puts-fit (clauseRecords n cs) out (clauseRecords-eight n cs) h

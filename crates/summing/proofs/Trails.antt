@@ -19,7 +19,7 @@ use Rattle.clauses.specs.Clauses.{between}
 use Rattle.clauses.specs.Factors.{Factor, alone, longer, inFront, factors}
 use Rattle.clauses.specs.Premises.{endsOf}
 use Rattle.clauses.specs.Reading.{endOf}
-use Rattle.summing.specs.Marks.{isB, EndOf, Trailed, done, step, StretchEnd}
+use Rattle.summing.specs.Marks.{isB, EndOf, Trailed, done, step, Within, StretchEnd}
 use Rattle.clauses.proofs.Factors.{Alternate, last-one, other-next, factors-alternate, stretchOf, factors-front}
 
 -- the colour of the edge at a place of the trail
@@ -174,3 +174,8 @@ module _ (inb : List Bool) (stops edges : List ℕ) (hi : ℕ) where
         behind = c .behind;
         ends = λ b p. (λ e. ⊎-elim (λ q. inl (w ∙ ap (λ (f : Factor). isB (f .colour)) (sym q) ∙ e .2, e .3 ∙ ap endsOf q ∙ here)) (λ m. inr (e .0, m, e .2, e .3)) (List·Memᴰ·cases-cons (subst (List·Memᴰ (e .0)) parts (e .1))), λ e. ⊎-elim (λ q. (stretchOf h (c .front), subst (List·Memᴰ (stretchOf h (c .front))) (sym parts) (List·Memᴰ·head refl), sym w ∙ q .0, q .1 ∙ sym here)) (λ m. (m .0, subst (List·Memᴰ (m .0)) (sym parts) (List·Memᴰ·tail (m .1)), m .2, m .3)) e);
       }
+
+-- a part of a trail is within the arrays too
+pub within-part : (stops edges : List ℕ) (hops lo hi : ℕ) → lo ≤ hi → hi ≤ hops → Within stops edges 0 hops → Within stops edges lo hi
+within-part stops edges hops lo hi h k w =
+    record { forward = h; short = omega (arith, w .short); stops-low = λ i l. w .stops-low i (omega (arith, l)); edges-low = λ i l. w .edges-low i (omega (arith, l)) }

@@ -15,6 +15,7 @@ use Rattle.closure.specs.Graph.{Graph}
 use Rattle.closure.specs.Forests.{Each}
 use Rattle.graphs.specs.Rooting.{RootedBy}
 use Rattle.closure.proofs.Walking.Invariant.{SoundGraph}
+use Rattle.summing.specs.declared.drawing.Drawing.{Drawing}
 use Rattle.summing.specs.Marks.{isB, PairWithin, PairMarked, Covered, Square, EdgeReached, Owed}
 
 -- the edge is derived
@@ -30,22 +31,27 @@ pub record EdgeAt (lefts rights : List ℕ) (inb derived : List Bool) (G : Graph
   pub kind-at : getD derived (length G) false ≡ isDerived (e .kind)
 
 -- The arrays hold a graph as the steps make it, rooted, and for each vertex its arity and its arguments, four places for each.
-pub record Drawn (args arities toward by rank lefts rights : List ℕ) (inb derived : List Bool) (count : ℕ) (ts : List Term) (ls : List Literal) (table : List Term) (G : Graph) : Type 0 where
+pub record Drawn (arrays : Drawing) (ts : List Term) (ls : List Literal) (table : List Term) (G : Graph) : Type 0 where
   pub sound : SoundGraph ts ls table G
   pub lower : LowerArguments table
   pub small : length table ≤ 511
-  pub counted : length G ≡ count
-  pub few : count ≤ 510
-  pub long : length args ≡ 2044
-  pub arity : (v : ℕ) → v < length table → getD arities v 0 ≤ 4
-  pub arguments : (v : ℕ) → v < length table → termAt table v .arguments ≡ take (getD arities v 0) (drop (4 * v) args)
-  pub rooted : RootedBy G toward by rank
-  pub edges : Each (EdgeAt lefts rights inb derived) G
+  pub counted : length G ≡ arrays .count
+  pub few : arrays .count ≤ 510
+  pub long : length (arrays .args) ≡ 2044
+  pub arity : (v : ℕ) → v < length table → getD (arrays .arities) v 0 ≤ 4
+  pub arguments : (v : ℕ) → v < length table → termAt table v .arguments ≡ take (getD (arrays .arities) v 0) (drop (4 * v) (arrays .args))
+  pub rooted : RootedBy G (arrays .toward) (arrays .by) (arrays .rank)
+  pub edges : Each (EdgeAt (arrays .lefts) (arrays .rights) (arrays .inb) (arrays .derived)) G
 
 -- they hold some graph
-abbrev pub DrawnSome : List ℕ → List ℕ → List ℕ → List ℕ → List ℕ → List ℕ → List ℕ → List Bool → List Bool → ℕ → Type 0
-DrawnSome args arities toward by rank lefts rights inb derived count =
-    (ts : List Term) × (ls : List Literal) × (table : List Term) × (G : Graph) × Drawn args arities toward by rank lefts rights inb derived count ts ls table G
+abbrev pub DrawnSome : Drawing → Type 0
+DrawnSome arrays =
+    (ts : List Term) × (ls : List Literal) × (table : List Term) × (G : Graph) × Drawn arrays ts ls table G
+
+-- the arrays, lent one by one
+abbrev pub drawing : List ℕ → List ℕ → List ℕ → List ℕ → List ℕ → List ℕ → List ℕ → List Bool → List Bool → ℕ → Drawing
+drawing args arities toward by rank lefts rights inb derived count =
+    record { args = args; arities = arities; toward = toward; by = by; rank = rank; lefts = lefts; rights = rights; inb = inb; derived = derived; count = count }
 
 -- the marks are in order: a square with its rows, and a mark for each edge
 pub record InOrder (pairs rows inside under : List Bool) : Type 0 where
@@ -54,13 +60,13 @@ pub record InOrder (pairs rows inside under : List Bool) : Type 0 where
   pub under-sized : length under ≡ 510
 
 -- the parent paths of edge number i are read
-pub record EdgeSettled (args arities toward by rank lefts rights : List ℕ) (inb derived : List Bool) (count i : ℕ) (b whole : Bool) (pairs rows inside under pairs′ rows′ inside′ under′ : List Bool) : Type 0 where
+pub record EdgeSettled (arrays : Drawing) (i : ℕ) (b whole : Bool) (pairs rows inside under pairs′ rows′ inside′ under′ : List Bool) : Type 0 where
   pub in-order : InOrder pairs′ rows′ inside′ under′
   pub cover : Covered pairs rows → Covered pairs′ rows′
-  pub owed : (ts : List Term) (ls : List Literal) (table : List Term) (G : Graph) → Drawn args arities toward by rank lefts rights inb derived count ts ls table G → (p : Pair) → PairWithin 511 p → Owed table G b pairs′ inside′ under′ i p ↔ (Owed table G b pairs inside under i p ⊎ EdgeReached table G b p whole i)
+  pub owed : (ts : List Term) (ls : List Literal) (table : List Term) (G : Graph) → Drawn arrays ts ls table G → (p : Pair) → PairWithin 511 p → Owed table G b pairs′ inside′ under′ i p ↔ (Owed table G b pairs inside under i p ⊎ EdgeReached table G b p whole i)
 
 -- the parent paths of all marked edges are read: what was owed is marked, and nothing else
-pub record Settled (args arities toward by rank lefts rights : List ℕ) (inb derived : List Bool) (count : ℕ) (b : Bool) (pairs rows inside under pairs′ rows′ inside′ under′ : List Bool) : Type 0 where
+pub record Settled (arrays : Drawing) (b : Bool) (pairs rows inside under pairs′ rows′ inside′ under′ : List Bool) : Type 0 where
   pub in-order : InOrder pairs′ rows′ inside′ under′
   pub cover : Covered pairs rows → Covered pairs′ rows′
-  pub marks : (ts : List Term) (ls : List Literal) (table : List Term) (G : Graph) → Drawn args arities toward by rank lefts rights inb derived count ts ls table G → (p : Pair) → PairWithin 511 p → PairMarked pairs′ p ↔ Owed table G b pairs inside under count p
+  pub marks : (ts : List Term) (ls : List Literal) (table : List Term) (G : Graph) → Drawn arrays ts ls table G → (p : Pair) → PairWithin 511 p → PairMarked pairs′ p ↔ Owed table G b pairs inside under (arrays .count) p

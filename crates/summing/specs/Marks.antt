@@ -123,3 +123,12 @@ pub record Wanted (inb : List Bool) (stops edges : List ℕ) (lo hi : ℕ) (b wh
   pub under-sized : length under′ ≡ 510
   pub cover : Covered pairs rows → Covered pairs′ rows′
   pub wants : (π : Path) → Trailed inb stops edges hi lo π → Wants b whole π pairs inside under pairs′ inside′ under′
+
+-- what the stretches before and after the middle one ask for is marked too, one after the other
+pub record OuterWanted (inb : List Bool) (stops edges : List ℕ) (lo hi hops : ℕ) (b : Bool) (pairs rows inside under pairs′ rows′ inside′ under′ : List Bool) : Type 0 where
+  pub pairs₁ : List Bool
+  pub rows₁ : List Bool
+  pub inside₁ : List Bool
+  pub under₁ : List Bool
+  pub before : Wanted inb stops edges 0 lo b b pairs rows inside under pairs₁ rows₁ inside₁ under₁
+  pub after : Wanted inb stops edges hi hops b b pairs₁ rows₁ inside₁ under₁ pairs′ rows′ inside′ under′

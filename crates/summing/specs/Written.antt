@@ -18,6 +18,7 @@ use Rattle.clauses.specs.Clauses.{between, Clause, Conclusion, equals, differs,
 use Rattle.clauses.specs.Premises.{premises, Premise}
 use Rattle.clauses.specs.Records.{ascending, recordsOf, clauseRecords}
 use Rattle.clauses.specs.Reading.{readBetween}
+use Rattle.summing.specs.declared.drawing.Drawing.{Drawing}
 use Rattle.summing.specs.Marks.{Reached, PairWithin, PairMarked, Covered, Square, Trailed}
 use Rattle.summing.specs.Drawn.{Drawn}
 use Rattle.summing.specs.Writing.{putRecords}
@@ -42,23 +43,23 @@ abbrev pub Clear : List Bool → Type 0
 Clear found = (p : Pair) → PairWithin 511 p → PairMarked found p → ⊥
 
 -- the arrays hold a graph over n terms, and the pairs that are marked are joined in it
-pub record Readable (args arities toward by rank lefts rights : List ℕ) (inb derived : List Bool) (count n : ℕ) (Concluded : Pair → Type 0) (ts : List Term) (ls : List Literal) (table : List Term) (G : Graph) : Type 0 where
-  pub drawn : Drawn args arities toward by rank lefts rights inb derived count ts ls table G
+pub record Readable (arrays : Drawing) (n : ℕ) (Concluded : Pair → Type 0) (ts : List Term) (ls : List Literal) (table : List Term) (G : Graph) : Type 0 where
+  pub drawn : Drawn arrays ts ls table G
   pub terms : length table ≡ n
   pub connected : (p : Pair) → PairWithin n p → Concluded p → T (joined G (p .left) (p .right))
 
 -- they hold some such graph
-abbrev pub ReadableSome : List ℕ → List ℕ → List ℕ → List ℕ → List ℕ → List ℕ → List ℕ → List Bool → List Bool → ℕ → ℕ → (Pair → Type 0) → Type 0
-ReadableSome args arities toward by rank lefts rights inb derived count n Concluded =
-    (ts : List Term) × (ls : List Literal) × (table : List Term) × (G : Graph) × Readable args arities toward by rank lefts rights inb derived count n Concluded ts ls table G
+abbrev pub ReadableSome : Drawing → ℕ → (Pair → Type 0) → Type 0
+ReadableSome arrays n Concluded =
+    (ts : List Term) × (ls : List Literal) × (table : List Term) × (G : Graph) × Readable arrays n Concluded ts ls table G
 
 -- the clauses of some pairs are written, at most 261122 records for each of `most` pairs, and no premise is left marked
-pub record ClausesPut (args arities toward by rank lefts rights : List ℕ) (inb derived : List Bool) (count n : ℕ) (Concluded : Pair → Type 0) (ps : List Pair) (most at : ℕ) (out : List ℕ) (r : ℕ) (found′ : List Bool) (out′ : List ℕ) : Type 0 where
+pub record ClausesPut (arrays : Drawing) (n : ℕ) (Concluded : Pair → Type 0) (ps : List Pair) (most at : ℕ) (out : List ℕ) (r : ℕ) (found′ : List Bool) (out′ : List ℕ) : Type 0 where
   pub few : r ≤ at + 261122 * most
   pub same : length out′ ≡ length out
   pub sized : length found′ ≡ 261121
   pub clear : Clear found′
-  pub written : (ts : List Term) (ls : List Literal) (table : List Term) (G : Graph) → Readable args arities toward by rank lefts rights inb derived count n Concluded ts ls table G → RecordsPut (flatMap (clauseOut n table G) ps) at out r out′
+  pub written : (ts : List Term) (ls : List Literal) (table : List Term) (G : Graph) → Readable arrays n Concluded ts ls table G → RecordsPut (flatMap (clauseOut n table G) ps) at out r out′
 
 -- the first stop in B, or the end of the trail where none before it is: a colour of 2 or more says that B is among a vertex's colours
 pub record FirstB (colours stops : List ℕ) (hops r : ℕ) : Type 0 where
@@ -78,23 +79,24 @@ abbrev pub Over : Graph → Path → Type 0
 Over G π = (h : Hop) → List·Memᴰ h π → HopOf h G
 
 -- the pairs that the clauses of a disequality conclude are marked, by its outer stretches before and after the middle one
-pub record Concluding (args arities toward by rank lefts rights : List ℕ) (inb derived : List Bool) (count : ℕ) (stops edges : List ℕ) (lo hi hops : ℕ) (pairs′ rows′ : List Bool) : Type 0 where
+pub record Concluding (arrays : Drawing) (stops edges : List ℕ) (lo hi hops : ℕ) (pairs′ rows′ : List Bool) : Type 0 where
   pub square : Square pairs′ rows′
   pub cover : Covered pairs′ rows′
-  pub marks : (ts : List Term) (ls : List Literal) (table : List Term) (G : Graph) → Drawn args arities toward by rank lefts rights inb derived count ts ls table G → (before middle after : Path) → Over G before → Over G middle → Over G after → Trailed inb stops edges lo 0 before → Trailed inb stops edges hi lo middle → Trailed inb stops edges hops hi after → (p : Pair) → PairWithin 511 p → PairMarked pairs′ p ↔ (Reached table false p true middle ⊎ (Reached table false p false before ⊎ Reached table false p false after))
+  pub marks : (ts : List Term) (ls : List Literal) (table : List Term) (G : Graph) → Drawn arrays ts ls table G → (before middle after : Path) → Over G before → Over G middle → Over G after → Trailed (arrays .inb) stops edges lo 0 before → Trailed (arrays .inb) stops edges hi lo middle → Trailed (arrays .inb) stops edges hops hi after → (p : Pair) → PairWithin 511 p → PairMarked pairs′ p ↔ (Reached table false p true middle ⊎ (Reached table false p false before ⊎ Reached table false p false after))
 
 -- "not [middle]", off the trail
 unfoldable pub notAt : List ℕ → ℕ → ℕ → Conclusion
 notAt stops lo hi = cond (ltb lo hi) (differs (between (getD stops lo 0) (getD stops hi 0))) falsum
 
--- the last clause is written: the premises of the outer stretches, and "not [middle]"
-pub record LastPut (args arities toward by rank lefts rights : List ℕ) (inb derived : List Bool) (count n : ℕ) (stops edges : List ℕ) (lo hi hops at : ℕ) (out : List ℕ) (r : ℕ) (out′ : List ℕ) : Type 0 where
-  pub written : (ts : List Term) (ls : List Literal) (table : List Term) (G : Graph) → Drawn args arities toward by rank lefts rights inb derived count ts ls table G → (before after : Path) → Over G before → Over G after → Trailed inb stops edges lo 0 before → Trailed inb stops edges hops hi after → (qs : List Pair) → ((p : Pair) → List·Memᴰ p qs ↔ (Premise table p before ⊎ Premise table p after)) → RecordsPut (recordsOf (record { premises = ascending n qs; conclusion = notAt stops lo hi })) at out r out′
+-- the last clause is written: the premises of the outer stretches, and "not [middle]"; where those are of terms below n, none is left marked
+pub record LastPut (arrays : Drawing) (n : ℕ) (stops edges : List ℕ) (lo hi hops at : ℕ) (out : List ℕ) (r : ℕ) (found′ : List Bool) (out′ : List ℕ) : Type 0 where
+  pub written : (ts : List Term) (ls : List Literal) (table : List Term) (G : Graph) → Drawn arrays ts ls table G → (before after : Path) → Over G before → Over G after → Trailed (arrays .inb) stops edges lo 0 before → Trailed (arrays .inb) stops edges hops hi after → (qs : List Pair) → ((p : Pair) → List·Memᴰ p qs ↔ (Premise table p before ⊎ Premise table p after)) → RecordsPut (recordsOf (record { premises = ascending n qs; conclusion = notAt stops lo hi })) at out r out′ × (((p : Pair) → List·Memᴰ p qs → p .right < n) → Clear found′)
   pub same : length out′ ≡ length out
+  pub sized : length found′ ≡ 261121
 
 -- what is asked of the writer of a summary: the arrays hold a graph over n terms that joins s and t, and the colours of 2 and more are those with B
-pub record Asking (args arities toward by rank lefts rights : List ℕ) (inb derived : List Bool) (count n : ℕ) (colours : List ℕ) (s t : ℕ) (ts : List Term) (ls : List Literal) (table : List Term) (G : Graph) : Type 0 where
-  pub drawn : Drawn args arities toward by rank lefts rights inb derived count ts ls table G
+pub record Asking (arrays : Drawing) (n : ℕ) (colours : List ℕ) (s t : ℕ) (ts : List Term) (ls : List Literal) (table : List Term) (G : Graph) : Type 0 where
+  pub drawn : Drawn arrays ts ls table G
   pub terms : length table ≡ n
   pub join : T (joined G s t)
   pub left-within : s < n
@@ -102,15 +104,21 @@ pub record Asking (args arities toward by rank lefts rights : List ℕ) (inb der
   pub coloured : (v : ℕ) → v < length table → colourable ts ls B table v ≡ leb 2 (getD colours v 0)
 
 -- they hold some such graph
-abbrev pub AskingSome : List ℕ → List ℕ → List ℕ → List ℕ → List ℕ → List ℕ → List ℕ → List Bool → List Bool → ℕ → ℕ → List ℕ → ℕ → ℕ → Type 0
-AskingSome args arities toward by rank lefts rights inb derived count n colours s t =
-    (ts : List Term) × (ls : List Literal) × (table : List Term) × (G : Graph) × Asking args arities toward by rank lefts rights inb derived count n colours s t ts ls table G
+abbrev pub AskingSome : Drawing → ℕ → List ℕ → ℕ → ℕ → Type 0
+AskingSome arrays n colours s t =
+    (ts : List Term) × (ls : List Literal) × (table : List Term) × (G : Graph) × Asking arrays n colours s t ts ls table G
 
 -- the side of the disequality: A where the flag is set
 abbrev pub sideOf : Bool → Side
 sideOf true = A
 sideOf false = B
 
--- the clause records of a disequality of a side between s and t are written
-pub record Summarised (args arities toward by rank lefts rights : List ℕ) (inb derived : List Bool) (count n : ℕ) (colours : List ℕ) (s t : ℕ) (X : Side) (out : List ℕ) (r : ℕ) (out′ : List ℕ) : Type 0 where
-  pub records : (ts : List Term) (ls : List Literal) (table : List Term) (G : Graph) → Asking args arities toward by rank lefts rights inb derived count n colours s t ts ls table G → RecordsPut (clauseRecords n (readBetween ts ls table G X s t)) 0 out r out′
+-- records are counted, and written from the start of a buffer that has room for all of them; any other stays as it is
+pub record AllPut (rs : List (List ℕ)) (out : List ℕ) (r : ℕ) (out′ : List ℕ) : Type 0 where
+  pub count : r ≡ length rs
+  pub bytes : 8 * length rs ≤ length out → out′ ≡ putRecords 0 rs out
+  pub kept : length out < 8 * length rs → out′ ≡ out
+
+-- the clause records of a disequality of a side between s and t are written so
+pub record Summarised (arrays : Drawing) (n : ℕ) (colours : List ℕ) (s t : ℕ) (X : Side) (out : List ℕ) (r : ℕ) (out′ : List ℕ) : Type 0 where
+  pub records : (ts : List Term) (ls : List Literal) (table : List Term) (G : Graph) → Asking arrays n colours s t ts ls table G → AllPut (clauseRecords n (readBetween ts ls table G X s t)) out r out′

@@ -1,10 +1,11 @@
 // Marks along a stretch of a path: which factors' ends are read, and which edges' parent paths.
+use graphs::paths::Trail;
 ghost use mathlib.Core.Bool.{Bool};
 ghost use mathlib.Core.Path.{_≡_};
 ghost use Prim.Native.Nat.{ℕ, _+_, _*_, _≤_, _<_};
 ghost use lib.ListN.{length, getD};
 ghost use Rattle.clauses.specs.Clauses.{between};
-ghost use Rattle.summing.specs.Marks.{placeOf, Square, PairAdded, StretchEnd, Within, FactorsAdded, EdgesAdded, Wanted};
+ghost use Rattle.summing.specs.Marks.{placeOf, Square, PairAdded, StretchEnd, Within, FactorsAdded, EdgesAdded, Wanted, OuterWanted};
 
 // The place of a pair of vertices in a square of 511 by 511, the lower one's row.
 fn place(u: u16, v: u16) -> usize
@@ -111,8 +112,7 @@ fn want_edges(
 // clauses are read, b being A, those of its A-edges too.
 pub fn want(
     inb: &[bool; 510],
-    stops: &[u16; 511],
-    edges: &[u16; 511],
+    t: Trail,
     lo: usize,
     hi: usize,
     b: bool,
@@ -122,16 +122,40 @@ pub fn want(
     inside: &mut [bool; 510],
     under: &mut [bool; 510],
 )
-    requires { ⌜ Within (now stops) (now edges) lo hi ⌝ }
+    requires { ⌜ Within (t .stops) (t .edges) lo hi ⌝ }
     requires { ⌜ Square (now pairs) (now rows) ⌝ }
     requires { ⌜ (length (now inside) ≡ 510) × (length (now under) ≡ 510) ⌝ }
-    ensures { λ _. ⌜ Wanted (now (inb .entry)) (now (stops .entry)) (now (edges .entry)) lo hi b whole (now (pairs .entry)) (now (rows .entry)) (now (inside .entry)) (now (under .entry)) (now (pairs .exit)) (now (rows .exit)) (now (inside .exit)) (now (under .exit)) ⌝ }
+    ensures { λ _. ⌜ Wanted (now (inb .entry)) (t .stops) (t .edges) lo hi b whole (now (pairs .entry)) (now (rows .entry)) (now (inside .entry)) (now (under .entry)) (now (pairs .exit)) (now (rows .exit)) (now (inside .exit)) (now (under .exit)) ⌝ }
 {
+    let stops = t.stops;
+    let edges = t.edges;
     if whole {
-        want_factors(inb, stops, edges, lo, hi, b, pairs, rows);
+        want_factors(inb, &stops, &edges, lo, hi, b, pairs, rows);
     }
-    want_edges(inb, stops, edges, lo, hi, !b, inside);
+    want_edges(inb, &stops, &edges, lo, hi, !b, inside);
     if !b {
-        want_edges(inb, stops, edges, lo, hi, false, under);
+        want_edges(inb, &stops, &edges, lo, hi, false, under);
     }
+}
+
+// The stretches before and after the middle one of a path, their own factors where those of B are read.
+pub fn want_outer(
+    inb: &[bool; 510],
+    t: Trail,
+    lo: usize,
+    hi: usize,
+    b: bool,
+    pairs: &mut [bool; 261121],
+    rows: &mut [bool; 511],
+    inside: &mut [bool; 510],
+    under: &mut [bool; 510],
+)
+    requires { ⌜ Within (t .stops) (t .edges) 0 (t .hops) × (lo ≤ hi) × (hi ≤ t .hops) ⌝ }
+    requires { ⌜ Square (now pairs) (now rows) ⌝ }
+    requires { ⌜ (length (now inside) ≡ 510) × (length (now under) ≡ 510) ⌝ }
+    ensures { λ _. ⌜ OuterWanted (now (inb .entry)) (t .stops) (t .edges) lo hi (t .hops) b (now (pairs .entry)) (now (rows .entry)) (now (inside .entry)) (now (under .entry)) (now (pairs .exit)) (now (rows .exit)) (now (inside .exit)) (now (under .exit)) ⌝ }
+{
+    let hops = t.hops;
+    want(inb, t, 0, lo, b, b, pairs, rows, inside, under);
+    want(inb, t, hi, hops, b, b, pairs, rows, inside, under);
 }

@@ -1,8 +1,10 @@
 // The summary: each concluded pair as a clause, in ascending order.
+use super::drawing;
+use super::drawing::Drawing;
 use super::marks;
 use super::settling;
 use super::writing;
-use graphs::paths;
+use graphs::paths::Trail;
 ghost use mathlib.Core.List.{_∷_, []};
 ghost use mathlib.Core.Path.{_≡_};
 ghost use Prim.Native.Nat.{_+_, _*_, _^_, _≤_, _<_};
@@ -17,16 +19,7 @@ ghost use mathlib.Core.Bool.{true, false};
 
 // One clause: the premises of the path between u and v, and then the pair itself.
 fn clause_out(
-    args: &[u16; 2044],
-    arities: &[u8; 511],
-    toward: &[u16; 511],
-    by: &[u16; 511],
-    rank: &[u16; 511],
-    lefts: &[u16; 510],
-    rights: &[u16; 510],
-    inb: &[bool; 510],
-    derived: &[bool; 510],
-    count: usize,
+    d: Drawing,
     vertices: u16,
     u: u16,
     v: u16,
@@ -34,22 +27,20 @@ fn clause_out(
     out: &mut [u8],
     at: usize,
 ) -> usize
-    requires { ⌜ ReadableSome (now args) (now arities) (now toward) (now by) (now rank) (now lefts) (now rights) (now inb) (now derived) count vertices (λ p. p ≡ pair u v) ⌝ }
+    requires { ⌜ ReadableSome d vertices (λ p. p ≡ pair u v) ⌝ }
     requires { ⌜ (u < v) × (v < vertices) × (vertices ≤ 511) × (at + 261122 < 2 ^ 60) ⌝ }
     requires { ⌜ (length (now found) ≡ 261121) × Clear (now found) ⌝ }
-    ensures { λ r. ⌜ ClausesPut (now (args .entry)) (now (arities .entry)) (now (toward .entry)) (now (by .entry)) (now (rank .entry)) (now (lefts .entry)) (now (rights .entry)) (now (inb .entry)) (now (derived .entry)) count vertices (λ p. p ≡ pair u v) (pair u v ∷ []) 1 at (now (out .entry)) r (now (found .exit)) (now (out .exit)) ⌝ }
+    ensures { λ r. ⌜ ClausesPut d vertices (λ p. p ≡ pair u v) (pair u v ∷ []) 1 at (now (out .entry)) r (now (found .exit)) (now (out .exit)) ⌝ }
 {
-    let t = paths::path(toward, by, rank, u, v);
-    let stops = t.stops;
-    let edges = t.edges;
+    let inb = d.inb;
+    let t = drawing::trail(d, u, v);
     let hops = t.hops;
     let mut rows = [false; 511];
     let mut wanted = [false; 510];
     let mut unused = [false; 510];
     marks::want(
-        inb,
-        &stops,
-        &edges,
+        &inb,
+        t,
         0,
         hops,
         true,
@@ -59,23 +50,7 @@ fn clause_out(
         &mut wanted,
         &mut unused,
     );
-    settling::settle(
-        args,
-        arities,
-        toward,
-        by,
-        rank,
-        lefts,
-        rights,
-        inb,
-        derived,
-        count,
-        true,
-        found,
-        &mut rows,
-        &mut wanted,
-        &mut unused,
-    );
+    settling::settle(d, true, found, &mut rows, &mut wanted, &mut unused);
     let n = writing::premises_out(found, &rows, vertices, out, at);
     writing::put(out, n, 2, u, v);
     n + 1
@@ -83,16 +58,7 @@ fn clause_out(
 
 // The clauses of the marked pairs of one row, ascending.
 fn clauses_row(
-    args: &[u16; 2044],
-    arities: &[u8; 511],
-    toward: &[u16; 511],
-    by: &[u16; 511],
-    rank: &[u16; 511],
-    lefts: &[u16; 510],
-    rights: &[u16; 510],
-    inb: &[bool; 510],
-    derived: &[bool; 510],
-    count: usize,
+    d: Drawing,
     vertices: u16,
     u: u16,
     pairs: &[bool; 261121],
@@ -100,33 +66,16 @@ fn clauses_row(
     out: &mut [u8],
     at: usize,
 ) -> usize
-    requires { ⌜ ReadableSome (now args) (now arities) (now toward) (now by) (now rank) (now lefts) (now rights) (now inb) (now derived) count vertices (PairMarked (now pairs)) ⌝ }
+    requires { ⌜ ReadableSome d vertices (PairMarked (now pairs)) ⌝ }
     requires { ⌜ (u < vertices) × (vertices ≤ 511) × (at + 261122 * 512 < 2 ^ 60) ⌝ }
     requires { ⌜ (length (now found) ≡ 261121) × Clear (now found) ⌝ }
-    ensures { λ r. ⌜ ClausesPut (now (args .entry)) (now (arities .entry)) (now (toward .entry)) (now (by .entry)) (now (rank .entry)) (now (lefts .entry)) (now (rights .entry)) (now (inb .entry)) (now (derived .entry)) count vertices (PairMarked (now (pairs .entry))) (keep (marked (now (pairs .entry))) (rowPairs vertices u)) 511 at (now (out .entry)) r (now (found .exit)) (now (out .exit)) ⌝ }
+    ensures { λ r. ⌜ ClausesPut d vertices (PairMarked (now (pairs .entry))) (keep (marked (now (pairs .entry))) (rowPairs vertices u)) 511 at (now (out .entry)) r (now (found .exit)) (now (out .exit)) ⌝ }
 {
     let mut n = at;
     let mut v = u + 1;
     while v < vertices {
         if pairs[511 * (u as usize) + v as usize] {
-            n = clause_out(
-                args,
-                arities,
-                toward,
-                by,
-                rank,
-                lefts,
-                rights,
-                inb,
-                derived,
-                count,
-                vertices,
-                u,
-                v,
-                found,
-                out,
-                n,
-            );
+            n = clause_out(d, vertices, u, v, found, out, n);
         }
         v += 1;
     }
@@ -135,16 +84,7 @@ fn clauses_row(
 
 // The clauses of all marked pairs, ascending. Rows without a mark are passed over.
 fn clauses_out(
-    args: &[u16; 2044],
-    arities: &[u8; 511],
-    toward: &[u16; 511],
-    by: &[u16; 511],
-    rank: &[u16; 511],
-    lefts: &[u16; 510],
-    rights: &[u16; 510],
-    inb: &[bool; 510],
-    derived: &[bool; 510],
-    count: usize,
+    d: Drawing,
     vertices: u16,
     pairs: &[bool; 261121],
     rows: &[bool; 511],
@@ -152,33 +92,16 @@ fn clauses_out(
     out: &mut [u8],
     at: usize,
 ) -> usize
-    requires { ⌜ ReadableSome (now args) (now arities) (now toward) (now by) (now rank) (now lefts) (now rights) (now inb) (now derived) count vertices (PairMarked (now pairs)) ⌝ }
+    requires { ⌜ ReadableSome d vertices (PairMarked (now pairs)) ⌝ }
     requires { ⌜ (vertices ≤ 511) × (at + 261122 * 262144 < 2 ^ 60) × Covered (now pairs) (now rows) ⌝ }
     requires { ⌜ (length (now found) ≡ 261121) × Clear (now found) ⌝ }
-    ensures { λ r. ⌜ ClausesPut (now (args .entry)) (now (arities .entry)) (now (toward .entry)) (now (by .entry)) (now (rank .entry)) (now (lefts .entry)) (now (rights .entry)) (now (inb .entry)) (now (derived .entry)) count vertices (PairMarked (now (pairs .entry))) (keep (marked (now (pairs .entry))) (pairsBelow vertices)) 261121 at (now (out .entry)) r (now (found .exit)) (now (out .exit)) ⌝ }
+    ensures { λ r. ⌜ ClausesPut d vertices (PairMarked (now (pairs .entry))) (keep (marked (now (pairs .entry))) (pairsBelow vertices)) 261121 at (now (out .entry)) r (now (found .exit)) (now (out .exit)) ⌝ }
 {
     let mut n = at;
     let mut u = 0u16;
     while u < vertices {
         if rows[u as usize] {
-            n = clauses_row(
-                args,
-                arities,
-                toward,
-                by,
-                rank,
-                lefts,
-                rights,
-                inb,
-                derived,
-                count,
-                vertices,
-                u,
-                pairs,
-                found,
-                out,
-                n,
-            );
+            n = clauses_row(d, vertices, u, pairs, found, out, n);
         }
         u += 1;
     }
@@ -226,35 +149,24 @@ fn last_b(
 
 // Marks the pairs that the clauses of a disequality conclude: what its middle stretch reaches, and what its outer ones reach without their own factors.
 fn conclude(
-    args: &[u16; 2044],
-    arities: &[u8; 511],
-    toward: &[u16; 511],
-    by: &[u16; 511],
-    rank: &[u16; 511],
-    lefts: &[u16; 510],
-    rights: &[u16; 510],
-    inb: &[bool; 510],
-    derived: &[bool; 510],
-    count: usize,
-    stops: &[u16; 511],
-    edges: &[u16; 511],
+    d: Drawing,
+    t: Trail,
     lo: usize,
     hi: usize,
-    hops: usize,
     pairs: &mut [bool; 261121],
     rows: &mut [bool; 511],
 )
-    requires { ⌜ DrawnSome (now args) (now arities) (now toward) (now by) (now rank) (now lefts) (now rights) (now inb) (now derived) count ⌝ }
-    requires { ⌜ Within (now stops) (now edges) 0 hops × (lo ≤ hi) × (hi ≤ hops) ⌝ }
+    requires { ⌜ DrawnSome d ⌝ }
+    requires { ⌜ Within (t .stops) (t .edges) 0 (t .hops) × (lo ≤ hi) × (hi ≤ t .hops) ⌝ }
     requires { ⌜ Square (now pairs) (now rows) × Clear (now pairs) ⌝ }
-    ensures { λ _. ⌜ Concluding (now (args .entry)) (now (arities .entry)) (now (toward .entry)) (now (by .entry)) (now (rank .entry)) (now (lefts .entry)) (now (rights .entry)) (now (inb .entry)) (now (derived .entry)) count (now (stops .entry)) (now (edges .entry)) lo hi hops (now (pairs .exit)) (now (rows .exit)) ⌝ }
+    ensures { λ _. ⌜ Concluding d (t .stops) (t .edges) lo hi (t .hops) (now (pairs .exit)) (now (rows .exit)) ⌝ }
 {
+    let inb = d.inb;
     let mut inside = [false; 510];
     let mut under = [false; 510];
     marks::want(
-        inb,
-        stops,
-        edges,
+        &inb,
+        t,
         lo,
         hi,
         false,
@@ -264,49 +176,8 @@ fn conclude(
         &mut inside,
         &mut under,
     );
-    marks::want(
-        inb,
-        stops,
-        edges,
-        0,
-        lo,
-        false,
-        false,
-        pairs,
-        rows,
-        &mut inside,
-        &mut under,
-    );
-    marks::want(
-        inb,
-        stops,
-        edges,
-        hi,
-        hops,
-        false,
-        false,
-        pairs,
-        rows,
-        &mut inside,
-        &mut under,
-    );
-    settling::settle(
-        args,
-        arities,
-        toward,
-        by,
-        rank,
-        lefts,
-        rights,
-        inb,
-        derived,
-        count,
-        false,
-        pairs,
-        rows,
-        &mut inside,
-        &mut under,
-    );
+    marks::want_outer(&inb, t, lo, hi, false, pairs, rows, &mut inside, &mut under);
+    settling::settle(d, false, pairs, rows, &mut inside, &mut under);
 }
 
 // The record of the last clause's conclusion: the ends of the middle stretch differ; or false, where it is empty.
@@ -329,251 +200,90 @@ fn put_last(stops: &[u16; 511], lo: usize, hi: usize, out: &mut [u8], at: usize)
 
 // The last clause of a disequality in A: the premises of the outer stretches imply that the middle one's ends differ.
 fn last_out(
-    args: &[u16; 2044],
-    arities: &[u8; 511],
-    toward: &[u16; 511],
-    by: &[u16; 511],
-    rank: &[u16; 511],
-    lefts: &[u16; 510],
-    rights: &[u16; 510],
-    inb: &[bool; 510],
-    derived: &[bool; 510],
-    count: usize,
+    d: Drawing,
     vertices: u16,
-    stops: &[u16; 511],
-    edges: &[u16; 511],
+    t: Trail,
     lo: usize,
     hi: usize,
-    hops: usize,
     found: &mut [bool; 261121],
     out: &mut [u8],
     at: usize,
 ) -> usize
-    requires { ⌜ DrawnSome (now args) (now arities) (now toward) (now by) (now rank) (now lefts) (now rights) (now inb) (now derived) count ⌝ }
-    requires { ⌜ Within (now stops) (now edges) 0 hops × (lo ≤ hi) × (hi ≤ hops) × (vertices ≤ 511) × (at + 261122 < 2 ^ 60) ⌝ }
+    requires { ⌜ DrawnSome d ⌝ }
+    requires { ⌜ Within (t .stops) (t .edges) 0 (t .hops) × (lo ≤ hi) × (hi ≤ t .hops) × (vertices ≤ 511) × (at + 261122 < 2 ^ 60) ⌝ }
     requires { ⌜ (length (now found) ≡ 261121) × Clear (now found) ⌝ }
-    ensures { λ r. ⌜ LastPut (now (args .entry)) (now (arities .entry)) (now (toward .entry)) (now (by .entry)) (now (rank .entry)) (now (lefts .entry)) (now (rights .entry)) (now (inb .entry)) (now (derived .entry)) count vertices (now (stops .entry)) (now (edges .entry)) lo hi hops at (now (out .entry)) r (now (out .exit)) ⌝ }
+    ensures { λ r. ⌜ LastPut d vertices (t .stops) (t .edges) lo hi (t .hops) at (now (out .entry)) r (now (found .exit)) (now (out .exit)) ⌝ }
 {
+    let inb = d.inb;
+    let stops = t.stops;
     let mut rows = [false; 511];
     let mut wanted = [false; 510];
     let mut unused = [false; 510];
-    marks::want(
-        inb,
-        stops,
-        edges,
-        0,
+    marks::want_outer(
+        &inb,
+        t,
         lo,
-        true,
-        true,
-        found,
-        &mut rows,
-        &mut wanted,
-        &mut unused,
-    );
-    marks::want(
-        inb,
-        stops,
-        edges,
         hi,
-        hops,
-        true,
         true,
         found,
         &mut rows,
         &mut wanted,
         &mut unused,
     );
-    settling::settle(
-        args,
-        arities,
-        toward,
-        by,
-        rank,
-        lefts,
-        rights,
-        inb,
-        derived,
-        count,
-        true,
-        found,
-        &mut rows,
-        &mut wanted,
-        &mut unused,
-    );
+    settling::settle(d, true, found, &mut rows, &mut wanted, &mut unused);
     let n = writing::premises_out(found, &rows, vertices, out, at);
-    put_last(stops, lo, hi, out, n);
+    put_last(&stops, lo, hi, out, n);
     n + 1
 }
 
 // "Disequality in B: the path clauses of the path between its sides."
-fn write_b(
-    args: &[u16; 2044],
-    arities: &[u8; 511],
-    toward: &[u16; 511],
-    by: &[u16; 511],
-    rank: &[u16; 511],
-    lefts: &[u16; 510],
-    rights: &[u16; 510],
-    inb: &[bool; 510],
-    derived: &[bool; 510],
-    count: usize,
-    vertices: u16,
-    colours: &[u8; 511],
-    s: u16,
-    t: u16,
-    out: &mut [u8],
-) -> usize
-    requires { ⌜ AskingSome (now args) (now arities) (now toward) (now by) (now rank) (now lefts) (now rights) (now inb) (now derived) count vertices (now colours) s t × (vertices ≤ 511) ⌝ }
-    ensures { λ r. ⌜ Summarised (now (args .entry)) (now (arities .entry)) (now (toward .entry)) (now (by .entry)) (now (rank .entry)) (now (lefts .entry)) (now (rights .entry)) (now (inb .entry)) (now (derived .entry)) count vertices (now (colours .entry)) s t (sideOf false) (now (out .entry)) r (now (out .exit)) ⌝ }
+fn write_b(d: Drawing, vertices: u16, colours: &[u8; 511], s: u16, t: u16, out: &mut [u8]) -> usize
+    requires { ⌜ AskingSome d vertices (now colours) s t × (vertices ≤ 511) ⌝ }
+    ensures { λ r. ⌜ Summarised d vertices (now (colours .entry)) s t (sideOf false) (now (out .entry)) r (now (out .exit)) ⌝ }
 {
-    let p = paths::path(toward, by, rank, s, t);
-    let stops = p.stops;
-    let edges = p.edges;
+    let p = drawing::trail(d, s, t);
     let hops = p.hops;
     let mut pairs = [false; 261121];
     let mut rows = [false; 511];
     let mut found = [false; 261121];
-    conclude(
-        args,
-        arities,
-        toward,
-        by,
-        rank,
-        lefts,
-        rights,
-        inb,
-        derived,
-        count,
-        &stops,
-        &edges,
-        0,
-        hops,
-        hops,
-        &mut pairs,
-        &mut rows,
-    );
-    clauses_out(
-        args,
-        arities,
-        toward,
-        by,
-        rank,
-        lefts,
-        rights,
-        inb,
-        derived,
-        count,
-        vertices,
-        &pairs,
-        &rows,
-        &mut found,
-        out,
-        0,
-    )
+    conclude(d, p, 0, hops, &mut pairs, &mut rows);
+    let mut none = [0u8; 1];
+    let n = clauses_out(d, vertices, &pairs, &rows, &mut found, &mut none, 0);
+    if out.len() / 8 < n {
+        return n;
+    }
+    clauses_out(d, vertices, &pairs, &rows, &mut found, out, 0)
 }
 
 // "Disequality in A": the path clauses of the middle stretch and of the outer premises, and a last clause.
-fn write_a(
-    args: &[u16; 2044],
-    arities: &[u8; 511],
-    toward: &[u16; 511],
-    by: &[u16; 511],
-    rank: &[u16; 511],
-    lefts: &[u16; 510],
-    rights: &[u16; 510],
-    inb: &[bool; 510],
-    derived: &[bool; 510],
-    count: usize,
-    vertices: u16,
-    colours: &[u8; 511],
-    s: u16,
-    t: u16,
-    out: &mut [u8],
-) -> usize
-    requires { ⌜ AskingSome (now args) (now arities) (now toward) (now by) (now rank) (now lefts) (now rights) (now inb) (now derived) count vertices (now colours) s t × (vertices ≤ 511) ⌝ }
-    ensures { λ r. ⌜ Summarised (now (args .entry)) (now (arities .entry)) (now (toward .entry)) (now (by .entry)) (now (rank .entry)) (now (lefts .entry)) (now (rights .entry)) (now (inb .entry)) (now (derived .entry)) count vertices (now (colours .entry)) s t (sideOf true) (now (out .entry)) r (now (out .exit)) ⌝ }
+fn write_a(d: Drawing, vertices: u16, colours: &[u8; 511], s: u16, t: u16, out: &mut [u8]) -> usize
+    requires { ⌜ AskingSome d vertices (now colours) s t × (vertices ≤ 511) ⌝ }
+    ensures { λ r. ⌜ Summarised d vertices (now (colours .entry)) s t (sideOf true) (now (out .entry)) r (now (out .exit)) ⌝ }
 {
-    let p = paths::path(toward, by, rank, s, t);
+    let p = drawing::trail(d, s, t);
     let stops = p.stops;
     let edges = p.edges;
     let hops = p.hops;
+    let lo = first_b(colours, &stops, &edges, hops);
+    let hi = last_b(colours, &stops, &edges, lo, hops);
     let mut pairs = [false; 261121];
     let mut rows = [false; 511];
     let mut found = [false; 261121];
-    let lo = first_b(colours, &stops, &edges, hops);
-    let hi = last_b(colours, &stops, &edges, lo, hops);
-    conclude(
-        args,
-        arities,
-        toward,
-        by,
-        rank,
-        lefts,
-        rights,
-        inb,
-        derived,
-        count,
-        &stops,
-        &edges,
-        lo,
-        hi,
-        hops,
-        &mut pairs,
-        &mut rows,
-    );
-    let n = clauses_out(
-        args,
-        arities,
-        toward,
-        by,
-        rank,
-        lefts,
-        rights,
-        inb,
-        derived,
-        count,
-        vertices,
-        &pairs,
-        &rows,
-        &mut found,
-        out,
-        0,
-    );
-    last_out(
-        args,
-        arities,
-        toward,
-        by,
-        rank,
-        lefts,
-        rights,
-        inb,
-        derived,
-        count,
-        vertices,
-        &stops,
-        &edges,
-        lo,
-        hi,
-        hops,
-        &mut found,
-        out,
-        n,
-    )
+    conclude(d, p, lo, hi, &mut pairs, &mut rows);
+    let mut none = [0u8; 1];
+    let m = clauses_out(d, vertices, &pairs, &rows, &mut found, &mut none, 0);
+    let n = last_out(d, vertices, p, lo, hi, &mut found, &mut none, m);
+    if out.len() / 8 < n {
+        return n;
+    }
+    let m = clauses_out(d, vertices, &pairs, &rows, &mut found, out, 0);
+    last_out(d, vertices, p, lo, hi, &mut found, out, m)
 }
 
-// All clause records of a disequality between s and t, each where it fits; returns how many there are.
+// All clause records of a disequality between s and t, where all of them have room; returns how many there are. The marks are made once: a run over
+// one byte counts, and the next one writes.
 pub fn write(
-    args: &[u16; 2044],
-    arities: &[u8; 511],
-    toward: &[u16; 511],
-    by: &[u16; 511],
-    rank: &[u16; 511],
-    lefts: &[u16; 510],
-    rights: &[u16; 510],
-    inb: &[bool; 510],
-    derived: &[bool; 510],
-    count: usize,
+    d: Drawing,
     vertices: u16,
     colours: &[u8; 511],
     ina: bool,
@@ -581,44 +291,12 @@ pub fn write(
     t: u16,
     out: &mut [u8],
 ) -> usize
-    requires { ⌜ AskingSome (now args) (now arities) (now toward) (now by) (now rank) (now lefts) (now rights) (now inb) (now derived) count vertices (now colours) s t × (vertices ≤ 511) ⌝ }
-    ensures { λ r. ⌜ Summarised (now (args .entry)) (now (arities .entry)) (now (toward .entry)) (now (by .entry)) (now (rank .entry)) (now (lefts .entry)) (now (rights .entry)) (now (inb .entry)) (now (derived .entry)) count vertices (now (colours .entry)) s t (sideOf ina) (now (out .entry)) r (now (out .exit)) ⌝ }
+    requires { ⌜ AskingSome d vertices (now colours) s t × (vertices ≤ 511) ⌝ }
+    ensures { λ r. ⌜ Summarised d vertices (now (colours .entry)) s t (sideOf ina) (now (out .entry)) r (now (out .exit)) ⌝ }
 {
     if ina {
-        write_a(
-            args,
-            arities,
-            toward,
-            by,
-            rank,
-            lefts,
-            rights,
-            inb,
-            derived,
-            count,
-            vertices,
-            colours,
-            s,
-            t,
-            out,
-        )
+        write_a(d, vertices, colours, s, t, out)
     } else {
-        write_b(
-            args,
-            arities,
-            toward,
-            by,
-            rank,
-            lefts,
-            rights,
-            inb,
-            derived,
-            count,
-            vertices,
-            colours,
-            s,
-            t,
-            out,
-        )
+        write_b(d, vertices, colours, s, t, out)
     }
 }

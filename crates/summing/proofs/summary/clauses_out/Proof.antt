@@ -7,14 +7,14 @@ use Rattle.summing.proofs.summary.clauses_out.Statement.{statement}
 use Rattle.summing.proofs.summary.clauses_out.Tie as tie
 
 abbrev Inv-loop : tie.InvT-loop
-Inv-loop args arities toward by rank lefts rights inb derived count vertices pairs rows found₀ out₀ at n₀ u₀ found out n u =
-    RowsClauses args arities toward by rank lefts rights inb derived count vertices pairs at out₀ u n found out
+Inv-loop arrays vertices pairs rows found₀ out₀ at n₀ u₀ found out n u =
+    RowsClauses arrays vertices pairs at out₀ u n found out
 
 abbrev μ-loop : tie.MeasureT-loop
-μ-loop args arities toward by rank lefts rights inb derived count vertices pairs rows found₀ out₀ at n₀ u₀ found out n u = vertices - u
+μ-loop arrays vertices pairs rows found₀ out₀ at n₀ u₀ found out n u = vertices - u
 
 loop-holds : tie.Need-loop-holds Inv-loop μ-loop
-loop-holds c = rows-clauses-none _ _ _ _ _ _ _ _ _ _ _ _ _ _ _ (c .before .pre .1 .1 .0) (c .before .pre .1 .1 .1)
+loop-holds c = rows-clauses-none _ _ _ _ _ _ (c .before .pre .1 .1 .0) (c .before .pre .1 .1 .1)
 
 cast-if1 : tie.Need-cast-if1 Inv-loop μ-loop
 cast-if1 c = omega (arith, c .before .before .before .pre .1 .0 .0, c .loop-test .taken)
@@ -39,14 +39,14 @@ loop-again c =
     let x = c .before .before .before .loop .inv in
     let t = c .before .before .loop-test .taken in
     let p = c .before .before .before .before .before .pre .1 .0 in
-    ⊎-elim (λ w. rows-clauses-named _ _ _ _ _ _ _ _ _ _ _ _ _ _ _ _ _ _ _ _ _ (w .6) (w .7) (w .8) (rows-clauses-take _ _ _ _ _ _ _ _ _ _ _ _ _ _ _ _ _ _ (p .0) t x _ _ _ (w .3 .ensures)))
-    (λ w. rows-clauses-named _ _ _ _ _ _ _ _ _ _ _ _ _ _ _ _ _ _ _ _ _ (w .1) (w .2) (w .3) (rows-clauses-skip _ _ _ _ _ _ _ _ _ _ _ _ _ _ _ _ _ _ (p .0) t x (c .before .before .before .before .before .args .rows .now) (p .2) (w .0 .left))) (c .if1 .came)
+    ⊎-elim (λ w. rows-clauses-named _ _ _ _ _ _ _ _ _ _ _ _ (w .6) (w .7) (w .8) (rows-clauses-take _ _ _ _ _ _ _ _ _ (p .0) t x _ _ _ (w .3 .ensures)))
+    (λ w. rows-clauses-named _ _ _ _ _ _ _ _ _ _ _ _ (w .1) (w .2) (w .3) (rows-clauses-skip _ _ _ _ _ _ _ _ _ (p .0) t x (c .before .before .before .before .before .args .rows .now) (p .2) (w .0 .left))) (c .if1 .came)
 
 same-length : tie.Need-same-length Inv-loop μ-loop
 same-length c = c .before .loop .inv .put .same
 
 returns : tie.Need-returns Inv-loop μ-loop
-returns c = rows-clauses-all _ _ _ _ _ _ _ _ _ _ _ _ _ _ _ _ _ _ (c .before .before .before .pre .1 .0 .0) (c .loop-test .left) (c .before .loop .inv)
+returns c = rows-clauses-all _ _ _ _ _ _ _ _ _ (c .before .before .before .pre .1 .0 .0) (c .loop-test .left) (c .before .loop .inv)
 
 pub clauses-out-spec : {M : Type 1} → statement M
 clauses-out-spec =

@@ -9,17 +9,17 @@ use Rattle.summing.proofs.summary.clauses_row.Statement.{statement}
 use Rattle.summing.proofs.summary.clauses_row.Tie as tie
 
 abbrev Inv-loop : tie.InvT-loop
-Inv-loop args arities toward by rank lefts rights inb derived count vertices u pairs found₀ out₀ at n₀ v₀ found out n v =
-    RowClauses args arities toward by rank lefts rights inb derived count vertices pairs u at out₀ v n found out
+Inv-loop arrays vertices u pairs found₀ out₀ at n₀ v₀ found out n v =
+    RowClauses arrays vertices pairs u at out₀ v n found out
 
 abbrev μ-loop : tie.MeasureT-loop
-μ-loop args arities toward by rank lefts rights inb derived count vertices u pairs found₀ out₀ at n₀ v₀ found out n v = vertices - v
+μ-loop arrays vertices u pairs found₀ out₀ at n₀ v₀ found out n v = vertices - v
 
 add-v : tie.Need-add-v Inv-loop μ-loop
 add-v c = omega (arith, c .before .pre .1 .0)
 
 loop-holds : tie.Need-loop-holds Inv-loop μ-loop
-loop-holds c = row-clauses-none _ _ _ _ _ _ _ _ _ _ _ _ _ _ _ (c .before .pre .1 .0 .0) _ (c .before .pre .1 .1 .0) (c .before .pre .1 .1 .1)
+loop-holds c = row-clauses-none _ _ _ _ _ _ (c .before .pre .1 .0 .0) _ (c .before .pre .1 .1 .0) (c .before .pre .1 .1 .1)
 
 mul-if1 : tie.Need-mul-if1 Inv-loop μ-loop
 mul-if1 c = omega (arith, c .before .before .before .pre .1 .0, c .loop-test .taken)
@@ -38,7 +38,7 @@ clause-out-requires c κs =
     let x = c .before .before .before .before .before .loop .inv in
     let p = c .before .before .before .before .before .before .before .pre .1 .0 in
     let t = c .before .before .before .before .loop-test .taken in
-    (readable-one _ _ _ _ _ _ _ _ _ _ _ (c .before .before .before .before .before .before .before .args .pairs .now) (pair (c .before .before .before .before .before .before .before .args .u) (c .before .before .before .before .before .loop .v)) (passes _ (c .before .before .if1 .taken)) (c .before .before .before .before .before .before .before .pre .0), ((x .begun, t, p .1, omega (arith, x .put .few, x .within, p .1, p .2)), (x .put .sized, x .put .clear)))
+    (readable-one _ _ (c .before .before .before .before .before .before .before .args .pairs .now) (pair (c .before .before .before .before .before .before .before .args .u) (c .before .before .before .before .before .loop .v)) (passes _ (c .before .before .if1 .taken)) (c .before .before .before .before .before .before .before .pre .0), ((x .begun, t, p .1, omega (arith, x .put .few, x .within, p .1, p .2)), (x .put .sized, x .put .clear)))
 
 add-v-2 : tie.Need-add-v-2 Inv-loop μ-loop
 add-v-2 c = omega (arith, c .before .before .loop-test .taken, c .before .before .before .before .before .pre .1 .0 .1)
@@ -50,14 +50,14 @@ loop-again : tie.Need-loop-again Inv-loop μ-loop
 loop-again c =
     let x = c .before .before .before .loop .inv in
     let t = c .before .before .loop-test .taken in
-    ⊎-elim (λ w. row-clauses-named _ _ _ _ _ _ _ _ _ _ _ _ _ _ _ _ _ _ _ _ _ _ (w .6) (w .7) (w .8) (row-clauses-take _ _ _ _ _ _ _ _ _ _ _ _ _ _ _ _ _ _ _ t x _ _ _ (w .0 .taken) (w .3 .ensures)))
-    (λ w. row-clauses-named _ _ _ _ _ _ _ _ _ _ _ _ _ _ _ _ _ _ _ _ _ _ (w .1) (w .2) (w .3) (row-clauses-skip _ _ _ _ _ _ _ _ _ _ _ _ _ _ _ _ _ _ _ t x (w .0 .left))) (c .if1 .came)
+    ⊎-elim (λ w. row-clauses-named _ _ _ _ _ _ _ _ _ _ _ _ _ (w .6) (w .7) (w .8) (row-clauses-take _ _ _ _ _ _ _ _ _ _ t x _ _ _ (w .0 .taken) (w .3 .ensures)))
+    (λ w. row-clauses-named _ _ _ _ _ _ _ _ _ _ _ _ _ (w .1) (w .2) (w .3) (row-clauses-skip _ _ _ _ _ _ _ _ _ _ t x (w .0 .left))) (c .if1 .came)
 
 same-length : tie.Need-same-length Inv-loop μ-loop
 same-length c = c .before .loop .inv .put .same
 
 returns : tie.Need-returns Inv-loop μ-loop
-returns c = row-clauses-all _ _ _ _ _ _ _ _ _ _ _ _ _ _ _ _ _ _ _ (c .before .before .before .pre .1 .0 .1) (c .loop-test .left) (c .before .loop .inv)
+returns c = row-clauses-all _ _ _ _ _ _ _ _ _ _ (c .before .before .before .pre .1 .0 .1) (c .loop-test .left) (c .before .loop .inv)
 
 pub clauses-row-spec : {M : Type 1} → statement M
 clauses-row-spec =

@@ -2,53 +2,47 @@
 use mathlib.Core.Bool.{false}
 use native.Mathlib.Omega.{arith}
 use lib.ListN.{replicate, length-replicate}
-use Rattle.summing.proofs.ClausesOut.{none-covered, within-part, last-put}
+use Rattle.summing.proofs.ClausesOut.{none-covered, last-put}
 use borrow.Author.Needs.{needs}
 use Rattle.summing.proofs.summary.last_out.Statement.{statement}
 use Rattle.summing.proofs.summary.last_out.Tie as tie
 
-want-requires : tie.Need-want-requires
-want-requires c κs =
-    let p = c .before .before .before .before .before .pre .1 .0 in
-    (within-part _ _ _ _ _ (omega arith) (omega (arith, p .1, p .2)) (p .0), ((c .before .before .before .before .before .pre .1 .1 .0, length-replicate 511 false), (length-replicate 510 false, length-replicate 510 false)))
-
-want-requires-2 : tie.Need-want-requires-2
-want-requires-2 c κs =
-    let p = c .before .before .before .before .before .before .before .before .before .before .pre .1 .0 in
-    let w = c .before .before .before .before .want .ensures in
-    (within-part _ _ _ _ _ (p .2) (omega arith) (p .0), (w .square, (w .inside-sized, w .under-sized)))
+want-outer-requires : tie.Need-want-outer-requires
+want-outer-requires c κs =
+    let p = c .before .before .before .before .before .before .before .before .pre .1 .0 in
+    ((p .0, p .1, p .2), ((c .before .before .before .before .before .before .before .before .pre .1 .1 .0, length-replicate 511 false), (length-replicate 510 false, length-replicate 510 false)))
 
 settle-requires : tie.Need-settle-requires
 settle-requires c κs =
-    let w = c .before .before .before .before .want2 .ensures in
-    (c .before .before .before .before .before .before .before .before .before .before .before .before .before .before .before .pre .0, record { square = w .square; inside-sized = w .inside-sized; under-sized = w .under-sized })
+    let w = c .before .before .before .before .want-outer .ensures .after in
+    (c .before .before .before .before .before .before .before .before .before .before .before .before .before .pre .0, record { square = w .square; inside-sized = w .inside-sized; under-sized = w .under-sized })
 
 premises-out-requires : tie.Need-premises-out-requires
 premises-out-requires c κs =
-    let p = c .before .before .before .before .before .before .before .before .before .before .before .before .before .before .before .before .before .before .before .pre .1 .0 in
+    let p = c .before .before .before .before .before .before .before .before .before .before .before .before .before .before .before .before .before .pre .1 .0 in
     let q = c .before .before .before .settle .ensures in
-    ((p .3, omega (arith, p .4)), (q .in-order .square .0, q .cover (c .before .before .before .before .before .before .before .before .want2 .ensures .cover (c .before .before .before .before .before .before .before .before .before .before .before .before .before .want .ensures .cover (none-covered (c .before .before .before .before .before .before .before .before .before .before .before .before .before .before .before .before .before .before .before .args .found .now) (c .before .before .before .before .before .before .before .before .before .before .before .before .before .before .before .before .before .before .before .pre .1 .1 .1) (replicate 511 false))))))
+    let w = c .before .before .before .before .before .before .before .before .want-outer .ensures in
+    ((p .3, omega (arith, p .4)), (q .in-order .square .0, q .cover (w .after .cover (w .before .cover (none-covered (c .before .before .before .before .before .before .before .before .before .before .before .before .before .before .before .before .before .args .found .now) (c .before .before .before .before .before .before .before .before .before .before .before .before .before .before .before .before .before .pre .1 .1 .1) (replicate 511 false))))))
 
 put-last-requires : tie.Need-put-last-requires
 put-last-requires c κs =
-    let p = c .before .before .before .before .before .before .before .before .before .before .before .before .before .before .before .before .before .before .before .before .before .before .before .pre .1 .0 in
-    (p .1, omega (arith, p .2, p .0 .short), omega (arith, c .before .before .before .premises-out .ensures .few, p .4))
+    let p = c .before .before .before .before .before .before .before .before .before .before .before .before .before .before .before .before .before .before .before .before .before .before .pre .1 .0 in
+    (p .1, omega (arith, p .2, p .0 .short), omega (arith, c .before .before .before .before .premises-out .ensures .few, p .4))
 
 add-result : tie.Need-add-result
-add-result c = omega (arith, c .before .before .before .before .before .before .premises-out .ensures .few, c .before .before .before .before .before .before .before .before .before .before .before .before .before .before .before .before .before .before .before .before .before .before .before .before .before .before .pre .1 .0 .4)
+add-result c = omega (arith, c .before .before .before .before .before .before .before .premises-out .ensures .few, c .before .before .before .before .before .before .before .before .before .before .before .before .before .before .before .before .before .before .before .before .before .before .before .before .before .pre .1 .0 .4)
 
 same-length : tie.Need-same-length
 same-length c = search needs
 
 returns : tie.Need-returns
-returns c = last-put _ _ _ _ _ _ _ _ _ _ _ _ _ _ _ _ (c .before .before .before .before .before .before .before .before .before .before .before .before .before .before .before .before .before .before .before .before .before .before .before .before .before .before .pre .1 .0 .3) (c .before .before .before .before .before .before .before .before .before .before .before .before .before .before .before .before .before .before .before .before .before .before .before .before .before .before .args .found .now) _ _ _ _ _ _ _ _ _ _ _ _ _ _ _ _ _ _ _ (c .before .before .before .before .before .before .before .before .before .before .before .before .before .before .before .before .before .before .before .before .before .before .before .before .before .before .pre .1 .1 .1) (c .before .before .before .before .before .before .before .before .before .before .before .before .before .before .before .before .before .before .before .before .want .ensures) (c .before .before .before .before .before .before .before .before .before .before .before .before .before .before .before .want2 .ensures) (c .before .before .before .before .before .before .before .before .before .before .settle .ensures) (c .before .before .before .before .before .before .premises-out .ensures) (c .before .before .put-last .ensures)
+returns c = last-put _ _ _ _ _ _ _ (c .before .before .before .before .before .before .before .before .before .before .before .before .before .before .before .before .before .before .before .before .before .before .before .before .before .pre .1 .0 .3) (c .before .before .before .before .before .before .before .before .before .before .before .before .before .before .before .before .before .before .before .before .before .before .before .before .before .args .found .now) _ _ _ _ _ _ _ _ _ (c .before .before .before .before .before .before .before .before .before .before .before .before .before .before .before .before .before .before .before .before .before .before .before .before .before .pre .1 .1 .1) (c .before .before .before .before .before .before .before .before .before .before .before .before .before .before .before .before .want-outer .ensures) (c .before .before .before .before .before .before .before .before .before .before .before .settle .ensures) _ _ _ _ _ _ (c .before .before .before .before .before .before .before .premises-out .ensures) (c .before .before .put-last .ensures)
 
 pub last-out-spec : {M : Type 1} → statement M
 last-out-spec =
     tie.close
     (tie.spec
-    want-requires
-    want-requires-2
+    want-outer-requires
     settle-requires
     premises-out-requires
     put-last-requires

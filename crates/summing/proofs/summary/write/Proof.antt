@@ -15,13 +15,13 @@ same-length : tie.Need-same-length
 same-length c = search needs
 
 returns : tie.Need-returns
-returns c = side-named _ _ _ _ _ _ _ _ _ _ _ _ _ _ (c .before .before .before .before .before .before .pre .1) _ _ _ true _ (c .before .before .before .before .if1 .taken) (c .before .before .write-a .ensures)
+returns c = side-named _ _ _ _ _ (c .before .before .before .before .before .before .pre .1) _ _ _ true _ (c .before .before .before .before .if1 .taken) (c .before .before .write-a .ensures)
 
 same-length-2 : tie.Need-same-length-2
 same-length-2 c = search needs
 
 returns-2 : tie.Need-returns-2
-returns-2 c = side-named _ _ _ _ _ _ _ _ _ _ _ _ _ _ (c .before .before .before .before .before .before .pre .1) _ _ _ false _ (c .before .before .before .before .if1 .left) (c .before .before .write-b .ensures)
+returns-2 c = side-named _ _ _ _ _ (c .before .before .before .before .before .before .pre .1) _ _ _ false _ (c .before .before .before .before .if1 .left) (c .before .before .write-b .ensures)
 
 pub write-spec : {M : Type 1} → statement M
 write-spec =
