@@ -32,7 +32,7 @@ use Rattle.clauses.specs.Records.{clauseRecords}
 use Rattle.summing.specs.Written.{Asking, RecordsPut, sideOf}
 use Rattle.clauses.proofs.Records.{clauseBytes, clauseBytes-length}
 use Rattle.summing.proofs.Summing.{records-written}
-use Rattle.engine.specs.declared.forest.Columns.{Columns}
+use Rattle.summing.specs.declared.edges.Columns.{Columns}
 use Rattle.engine.specs.Buffers.{writtenOver}
 use Rattle.engine.specs.Call.{recordsIn}
 use Rattle.engine.specs.Ending.{Ends, Decides, termsIn, literalsIn, recordsFor, Written, FlatRows}

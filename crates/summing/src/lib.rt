@@ -1,5 +1,6 @@
 // The clause layer of document 01 as code, on plain arrays: which clauses the summary has, and their records.
 
+pub mod edges;
 pub mod marks;
 pub mod settling;
 pub mod summary;
