@@ -33,7 +33,7 @@ use Rattle.clauses.specs.Records.{clauseRecords}
 use Rattle.summing.specs.Written.{Asking, AllPut, sideOf}
 use Rattle.clauses.proofs.Records.{clauseBytes, clauseBytes-length}
 use Rattle.summing.proofs.Summing.{records-written}
-use Rattle.engine.specs.declared.forest.Columns.{Columns}
+use Rattle.summing.specs.declared.edges.Columns.{Columns}
 use Rattle.demands.specs.Buffers.{writtenOver}
 use Rattle.demands.specs.Call.{recordsIn}
 use Rattle.engine.specs.Ending.{Ends, Decides, termsIn, literalsIn, recordsFor, Written, FlatRows}
