@@ -2,4 +2,3 @@
 pub mod Walking
 pub mod Running
 pub mod Entailing
-pub mod InArrays

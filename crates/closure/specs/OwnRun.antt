@@ -7,10 +7,9 @@ use lib.ListN.{length}
 use Rattle.tables.specs.Words.{Pair, firstOf, pairsBelow}
 use Rattle.tables.specs.Terms.{Term, termAt}
 use Rattle.tables.specs.LiteralTable.{Literal, isEqual}
-use Rattle.tables.specs.declared.Side.{Side}
 use Rattle.tables.specs.declared.Side.the-variants.{A, B}
 use Rattle.tables.specs.Colours.{inUse, colourable, shared, edgeColourable}
-use Rattle.closure.specs.Graph.{Edge, basic, derived, Graph, Path, joined, path, vertices, pathsBetween}
+use Rattle.closure.specs.Graph.{basic, derived, Graph, joined, path, vertices}
 use Rattle.closure.specs.Steps.{State, begin, tableOf, congruent, withEdge, withMiddle}
 
 -- "all basic steps by record number, skipping joined sides"

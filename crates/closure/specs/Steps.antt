@@ -1,11 +1,11 @@
 -- 01, "Closure steps": what one step may be, as demand 3 allows it freely. ts are the given terms and ls the literals.
-use mathlib.Core.Bool.{Bool, true, false, cond, not, _&&_, _||_}
+use mathlib.Core.Bool.{Bool, cond, not, _&&_}
 use mathlib.Core.List.{List, [], _∷_, _++_, List·Memᴰ}
 use mathlib.Core.Logic.{_⊎_}
 use mathlib.Core.Option.{Option, some, none}
 use mathlib.Core.Path.{_≡_}
 use Prim.Native.Nat.{ℕ, zero, suc}
-use lib.Dec.{T, eqb, ltb, leb}
+use lib.Dec.{T, eqb, ltb}
 use lib.ListN.{length}
 use Rattle.tables.specs.Words.{same, firstBelow}
 use Rattle.tables.specs.Terms.{Term, termAt}
@@ -13,7 +13,7 @@ use Rattle.tables.specs.LiteralTable.{Literal, equal}
 use Rattle.tables.specs.declared.Side.{Side}
 use Rattle.tables.specs.declared.Side.the-variants.{A, B}
 use Rattle.tables.specs.Colours.{inUse, colourable, shared, edgeColourable}
-use Rattle.closure.specs.Graph.{Edge, EdgeKind, basic, derived, Graph, Path, joined, path, vertices, joinedPairwise, pathsBetween}
+use Rattle.closure.specs.Graph.{EdgeKind, basic, derived, Graph, joined, path, vertices, joinedPairwise}
 
 -- What a run has made so far: the added terms in order of adding, and the graph's edges.
 pub record State : Type 0 where

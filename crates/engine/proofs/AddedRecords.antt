@@ -11,11 +11,11 @@ use Rattle.tables.specs.declared.Tables.{Tables}
 use Rattle.tables.proofs.Words.{below-mem}
 use Rattle.tables.proofs.WordBytes.{getD-below}
 use Rattle.closure.specs.Steps.{tableOf}
-use Rattle.closure.specs.Shown.{padded, rowFor}
-use Rattle.closure.specs.Keys.{noRow}
-use Rattle.closure.specs.declared.Row.{Row}
-use Rattle.closure.specs.declared.state.State.{State as Arrays}
-use Rattle.closure.proofs.InArrays.Showing.{shown-symbol, shown-arity, shown-row}
+use Rattle.running.specs.Shown.{padded, rowFor}
+use Rattle.running.specs.Keys.{noRow}
+use Rattle.running.specs.declared.Row.{Row}
+use Rattle.running.specs.declared.state.State.{State as Arrays}
+use Rattle.running.proofs.Showing.{shown-symbol, shown-arity, shown-row}
 use Rattle.demands.specs.Buffers.{termBytes}
 use Rattle.engine.specs.Ending.{Ends, termsIn, literalsIn, recordBytes}
 use Rattle.demands.proofs.AddedTerms.{argumentAt, addedBytes, laid, termBytes-laid}

@@ -9,7 +9,7 @@ use lib.ListN.{length, length-map}
 use Rattle.tables.specs.Terms.{Term}
 use Rattle.tables.specs.LiteralTable.{Literal}
 use Rattle.tables.specs.declared.Tables.{Tables}
-use Rattle.closure.specs.declared.state.State.{State as Arrays}
+use Rattle.running.specs.declared.state.State.{State as Arrays}
 use Rattle.demands.specs.declared.Answer.the-variants.{Consistent, Inconsistent}
 use Rattle.demands.specs.Buffers.{partitionBytes, termBytes, writtenOver, tooShort}
 use Rattle.demands.specs.Call.{Buffers, Returned, refused, consistent, inconsistent}

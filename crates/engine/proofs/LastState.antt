@@ -13,18 +13,18 @@ use Rattle.tables.specs.declared.Tables.{Tables}
 use Rattle.closure.specs.Graph.{Graph, joined}
 use Rattle.closure.specs.Steps.{tableOf}
 use Rattle.closure.specs.Forests.{Each}
-use Rattle.closure.specs.Opening.{ReadFrom}
-use Rattle.closure.specs.Layout.{edgesOf}
-use Rattle.closure.specs.Rooting.{RootedBy}
-use Rattle.closure.specs.Stepping.{OnRun}
-use Rattle.closure.specs.declared.state.State.{State as Arrays}
-use Rattle.closure.proofs.InArrays.Beginning.{terms-are}
-use Rattle.closure.proofs.InArrays.BasicSteps.{length-literals, left-is, right-is, side-is, left-within, right-within}
-use Rattle.closure.proofs.InArrays.DerivedSteps.{two-test}
-use Rattle.closure.proofs.InArrays.OnRuns.{on-run-sound, arity-small, can-root}
+use Rattle.running.specs.Opening.{ReadFrom}
+use Rattle.graphs.specs.Layout.{edgesOf}
+use Rattle.graphs.specs.Rooting.{RootedBy}
+use Rattle.running.specs.Stepping.{OnRun}
+use Rattle.running.specs.declared.state.State.{State as Arrays}
+use Rattle.running.proofs.Beginning.{terms-are}
+use Rattle.running.proofs.BasicSteps.{length-literals, left-is, right-is, side-is, left-within, right-within}
+use Rattle.running.proofs.DerivedSteps.{two-test}
+use Rattle.running.proofs.OnRuns.{on-run-sound, arity-small, can-root}
 use Rattle.closure.proofs.Running.OwnRun.{own-run}
-use Rattle.closure.proofs.InArrays.OwnTurns.{checks}
-use Rattle.closure.proofs.InArrays.Showing.{shown-arity, shown-colour}
+use Rattle.running.proofs.OwnTurns.{checks}
+use Rattle.running.proofs.Showing.{shown-arity, shown-colour}
 use Rattle.summing.specs.declared.drawing.Drawing.{Drawing}
 use Rattle.summing.specs.Drawn.{EdgeAt, Drawn, drawing}
 use Rattle.clauses.specs.Clauses.{Clause}
@@ -33,7 +33,7 @@ use Rattle.clauses.specs.Records.{clauseRecords}
 use Rattle.summing.specs.Written.{Asking, AllPut, sideOf}
 use Rattle.clauses.proofs.Records.{clauseBytes, clauseBytes-length}
 use Rattle.summing.proofs.Summing.{records-written}
-use Rattle.engine.specs.declared.forest.Columns.{Columns}
+use Rattle.summing.specs.declared.edges.Columns.{Columns}
 use Rattle.demands.specs.Buffers.{writtenOver}
 use Rattle.demands.specs.Call.{recordsIn}
 use Rattle.engine.specs.Ending.{Ends, Decides, termsIn, literalsIn, recordsFor, Written, FlatRows}

@@ -17,10 +17,10 @@ use Rattle.tables.proofs.Words.{below-mem}
 use Rattle.tables.proofs.Filled.{filled-at}
 use Rattle.tables.proofs.Sound.{length-termsOf}
 use Rattle.closure.specs.Graph.{Graph, label, joined}
-use Rattle.closure.specs.declared.state.State.{State as Arrays}
-use Rattle.closure.proofs.InArrays.Beginning.{sound-tables, read-sound, terms-are, terms-fit}
-use Rattle.closure.proofs.InArrays.BasicSteps.{length-literals, left-is, right-is, kind-is, sides-small}
-use Rattle.closure.proofs.InArrays.Showing.{shown-label}
+use Rattle.running.specs.declared.state.State.{State as Arrays}
+use Rattle.running.proofs.Beginning.{sound-tables, read-sound, terms-are, terms-fit}
+use Rattle.running.proofs.BasicSteps.{length-literals, left-is, right-is, kind-is, sides-small}
+use Rattle.running.proofs.Showing.{shown-label}
 use Rattle.clauses.specs.Reading.{contradicted, critical}
 use Rattle.demands.specs.Buffers.{classNumber, partitionBytes}
 use Rattle.engine.proofs.Writing.{flatMap-agree}

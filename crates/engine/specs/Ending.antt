@@ -14,11 +14,11 @@ use Rattle.tables.specs.LiteralTable.{Literal, literalsOf}
 use Rattle.tables.specs.declared.Tables.{Tables}
 use Rattle.closure.specs.Steps.{State, tableOf}
 use Rattle.closure.specs.OwnRun.{ownRun}
-use Rattle.closure.specs.Shown.{Shows}
-use Rattle.closure.specs.Keys.{noRow}
-use Rattle.closure.specs.declared.Row.{Row}
-use Rattle.closure.specs.Opening.{ReadFrom}
-use Rattle.closure.specs.declared.state.State.{State as Arrays}
+use Rattle.running.specs.Shown.{Shows}
+use Rattle.running.specs.Keys.{noRow}
+use Rattle.running.specs.declared.Row.{Row}
+use Rattle.running.specs.Opening.{ReadFrom}
+use Rattle.running.specs.declared.state.State.{State as Arrays}
 use Rattle.clauses.specs.Reading.{literalAt, critical}
 use Rattle.summing.specs.declared.drawing.Drawing.{Drawing}
 use Rattle.summing.specs.Drawn.{Drawn}

@@ -1,8 +1,8 @@
 // The records of the added terms.
 
 use super::bytes;
-use closure::Row;
-use closure::state::State;
+use running::Row;
+use running::state::State;
 use tables::Tables;
 ghost use mathlib.Core.List.{map, flatMap};
 ghost use mathlib.Core.Path.{_≡_};

@@ -1,7 +1,7 @@
 // The consistent answer: a class number for each given term.
 
 use super::bytes;
-use closure::state::State;
+use running::state::State;
 use tables::Tables;
 ghost use mathlib.Core.Path.{_≡_};
 ghost use Prim.Native.Nat.{_*_, _≤_, _<_};

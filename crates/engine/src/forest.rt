@@ -1,69 +1,23 @@
 // The last graph and its terms, laid out as plain arrays for the clause layer.
 
-use closure::EdgeKind;
-use closure::Row;
-use closure::graph::Graph;
-use tables::Side;
-ghost use mathlib.Core.Path.{_≡_};
+use graphs::graph::Graph;
+use running::Row;
+use summing::edges;
+use summing::edges::Columns;
 ghost use Prim.Native.Nat.{_≤_};
 ghost use Rattle.closure.specs.Forests.{Each};
-ghost use Rattle.closure.specs.Layout.{edgesOf};
-ghost use Rattle.summing.specs.Marks.{isB};
-ghost use Rattle.summing.specs.Drawn.{isDerived, EdgeAt};
+ghost use Rattle.graphs.specs.Layout.{edgesOf};
+ghost use Rattle.summing.specs.Drawn.{EdgeAt};
 ghost use Rattle.engine.specs.Ending.{FlatRows};
 
-// What an edge holds, a column for each.
-pub struct Columns {
-    pub lefts: [u16; 510],
-    pub rights: [u16; 510],
-    pub inb: [bool; 510],
-    pub derived: [bool; 510],
-}
-
-// Whether an edge's colour is B.
-fn is_b(colour: Side) -> bool
-    ensures { λ r. ⌜ r ≡ isB colour ⌝ }
-{
-    match colour {
-        Side::A => false,
-        Side::B => true,
-    }
-}
-
-// Whether an edge is derived.
-fn is_derived(kind: EdgeKind) -> bool
-    ensures { λ r. ⌜ r ≡ isDerived kind ⌝ }
-{
-    match kind {
-        EdgeKind::Basic => false,
-        EdgeKind::Derived => true,
-    }
-}
-
-// Each edge under its number.
+// Each edge under its number: the edge records are lent to the clause layer's walk.
 pub fn laid_out(graph: Graph) -> Columns
     requires { ⌜ graph .count ≤ 510 ⌝ }
     ensures { λ r. ⌜ Each (EdgeAt (r .lefts) (r .rights) (r .inb) (r .derived)) (edgesOf graph) ⌝ }
 {
+    let records = graph.edges;
     let count = graph.count;
-    let mut c = Columns {
-        lefts: [0u16; 510],
-        rights: [0u16; 510],
-        inb: [false; 510],
-        derived: [false; 510],
-    };
-    let mut i = 0;
-    while i < count {
-        let e = graph.edges[i];
-        let colour = e.colour;
-        let kind = e.kind;
-        c.lefts[i] = e.left;
-        c.rights[i] = e.right;
-        c.inb[i] = is_b(colour);
-        c.derived[i] = is_derived(kind);
-        i += 1;
-    }
-    c
+    edges::columns_of(&records, count)
 }
 
 // The rows of four, one behind the other.

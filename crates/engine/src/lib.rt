@@ -8,9 +8,9 @@ mod forest;
 mod summaries;
 mod verdict;
 
-use closure::run;
 use demands::Answer;
 use demands::Numbers;
+use running::run;
 use tables::Check;
 ghost use mathlib.Core.Path.{_≡_};
 ghost use Rattle.demands.specs.Answers.{numbersOf};

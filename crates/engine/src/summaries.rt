@@ -1,8 +1,8 @@
 // The clause records of the critical disequality, off the run's last state.
 
 use super::forest;
-use closure::rooting;
-use closure::state::State;
+use graphs::rooting;
+use running::state::State;
 use summing::drawing::Drawing;
 use summing::summary;
 use tables::Tables;

@@ -1,7 +1,7 @@
 // What a run's last state says: the critical disequality, or none. And the answer where a row of the checks refuses.
 
-use closure::state::State;
 use demands::Answer;
+use running::state::State;
 use tables::Check;
 use tables::Found;
 use tables::Tables;

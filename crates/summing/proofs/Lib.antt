@@ -8,3 +8,4 @@ pub mod Owing
 pub mod ClausesOut
 pub mod Stretching
 pub mod Summing
+pub mod Filling

@@ -16,12 +16,12 @@ use Rattle.tables.proofs.Words.{and-left, and-right, getD-mem, below-or-is, pas
 use Rattle.closure.specs.declared.Edge.{Edge}
 use Rattle.closure.specs.declared.EdgeKind.{EdgeKind}
 use Rattle.closure.specs.declared.EdgeKind.the-variants.{Basic, Derived}
-use Rattle.closure.specs.declared.paths.Trail.{Trail}
+use Rattle.graphs.specs.declared.paths.Trail.{Trail}
 use Rattle.closure.specs.Graph.{Graph, Hop, Path, forth, vertices, joined, path, parentPaths}
 use Rattle.closure.specs.Walks.{HopOf, onward, earlier, Walk, stay, hop}
 use Rattle.closure.specs.Forests.{Each}
-use Rattle.closure.specs.Rooting.{number}
-use Rattle.closure.specs.Trails.{Joining, TrailOf}
+use Rattle.graphs.specs.Rooting.{number}
+use Rattle.graphs.specs.Trails.{Joining, TrailOf}
 use Rattle.closure.proofs.Walking.Walks.{hop-each, older-fewer, older-joined, path-walk}
 use Rattle.closure.proofs.Walking.OnePath.{path-older}
 use Rattle.closure.proofs.Walking.Parents.{SoundHop, hop-sound, path-hop, parent-hop}

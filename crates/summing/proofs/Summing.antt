@@ -16,8 +16,8 @@ use Rattle.tables.specs.declared.Side.the-variants.{A, B}
 use Rattle.tables.specs.Colours.{colourable}
 use Rattle.tables.proofs.Words.{keep-mem, mem-keep, pairsBelow-mem, passed, failed, passes, fails}
 use Rattle.closure.specs.Graph.{Graph, Path, joined, path}
-use Rattle.closure.specs.declared.paths.Trail.{Trail}
-use Rattle.closure.specs.Trails.{Joining, TrailOf}
+use Rattle.graphs.specs.declared.paths.Trail.{Trail}
+use Rattle.graphs.specs.Trails.{Joining, TrailOf}
 use Rattle.closure.specs.Walks.{Walk, hop, IsPath}
 use Rattle.closure.proofs.Walking.Walks.{path-walk, walk-joined, walk-hop}
 use Rattle.closure.proofs.Walking.Parents.{path-hop}

@@ -13,7 +13,7 @@ use Rattle.closure.specs.declared.EdgeKind.{EdgeKind}
 use Rattle.closure.specs.declared.EdgeKind.the-variants.{Basic, Derived}
 use Rattle.closure.specs.Graph.{Graph}
 use Rattle.closure.specs.Forests.{Each}
-use Rattle.closure.specs.Rooting.{RootedBy}
+use Rattle.graphs.specs.Rooting.{RootedBy}
 use Rattle.closure.proofs.Walking.Invariant.{SoundGraph}
 use Rattle.summing.specs.declared.drawing.Drawing.{Drawing}
 use Rattle.summing.specs.Marks.{isB, PairWithin, PairMarked, Covered, Square, EdgeReached, Owed}

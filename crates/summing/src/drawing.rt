@@ -1,9 +1,9 @@
 // The last graph and its terms as the clause layer is handed them.
-use closure::paths;
-use closure::paths::Trail;
+use graphs::paths;
+use graphs::paths::Trail;
 ghost use Prim.Native.Nat.{_<_};
 ghost use Rattle.closure.specs.Graph.{Graph};
-ghost use Rattle.closure.specs.Trails.{Joining, TrailOf};
+ghost use Rattle.graphs.specs.Trails.{Joining, TrailOf};
 
 // For each vertex its arguments, four places for each, its arity, and the way to its root; for each edge its ends, whether its colour is B, and
 // whether it is derived.

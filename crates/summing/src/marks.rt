@@ -1,5 +1,5 @@
 // Marks along a stretch of a path: which factors' ends are read, and which edges' parent paths.
-use closure::paths::Trail;
+use graphs::paths::Trail;
 ghost use mathlib.Core.Path.{_≡_};
 ghost use Prim.Native.Nat.{_+_, _*_, _≤_, _<_};
 ghost use lib.ListN.{length};

@@ -1,7 +1,7 @@
 // The parent paths of marked edges, read from the newest edge to the oldest: parent paths have older edges only, so one pass is enough.
 use super::drawing::Drawing;
 use super::marks;
-use closure::paths;
+use graphs::paths;
 ghost use mathlib.Core.Bool.{Bool, true, false, _&&_, _||_};
 ghost use mathlib.Core.Path.{_≡_};
 ghost use Prim.Native.Nat.{_<_};

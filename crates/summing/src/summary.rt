@@ -4,7 +4,7 @@ use super::drawing::Drawing;
 use super::marks;
 use super::settling;
 use super::writing;
-use closure::paths::Trail;
+use graphs::paths::Trail;
 ghost use mathlib.Core.List.{_∷_, []};
 ghost use mathlib.Core.Path.{_≡_};
 ghost use Prim.Native.Nat.{_+_, _*_, _^_, _≤_, _<_};

@@ -1,10 +1,8 @@
 -- Demand 3's first half, of every run by the steps that 01 allows: it ends, and at its end its classes are those that the equalities entail, so they are
 -- the same in all runs.
-use mathlib.Core.List.{List, List·Memᴰ}
+use mathlib.Core.List.{List}
 use mathlib.Core.Logic.{_↔_}
-use mathlib.Core.Option.{some}
-use mathlib.Core.Path.{_≡_}
-use Prim.Native.Nat.{ℕ, _<_}
+use Prim.Native.Nat.{ℕ}
 use lib.Dec.{T}
 use Rattle.tables.specs.Terms.{Term, LowerArguments}
 use Rattle.tables.specs.LiteralTable.{Literal}
@@ -13,7 +11,6 @@ use Rattle.tables.specs.Interpretations.{Satisfiable, FinitelySatisfiable, Enta
 use Rattle.tables.proofs.Colours.{SidesWithin}
 use Rattle.closure.specs.Graph.{joined}
 use Rattle.closure.specs.Steps.{State, Run, NoStepLeft}
-use Rattle.closure.proofs.Running.States.{SoundState}
 use Rattle.closure.proofs.Running.Runs.{run-sound}
 use Rattle.closure.proofs.Entailing.Values.{joined-value}
 use Rattle.closure.proofs.Running.OwnSteps.{no-step-congruent, no-step-equality}

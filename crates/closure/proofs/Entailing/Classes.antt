@@ -13,7 +13,7 @@ use Rattle.tables.specs.LiteralTable.{Kind, equal, different, Literal}
 use Rattle.tables.specs.declared.Side.{Side}
 use Rattle.tables.specs.declared.Side.the-variants.{A, B}
 use Rattle.tables.specs.Colours.{inUse}
-use Rattle.tables.specs.Interpretations.{Interpretation, Finite, value, HoldsAs, Holds, Satisfies, SatisfiesEqualities, Satisfiable, FinitelySatisfiable, Entailed, FinitelyEntailed}
+use Rattle.tables.specs.Interpretations.{Interpretation, value, HoldsAs, Holds, Satisfies, SatisfiesEqualities, Satisfiable, FinitelySatisfiable, Entailed, FinitelyEntailed}
 use Rattle.tables.proofs.Words.{passes, passed}
 use Rattle.tables.proofs.Terms.{lower-append, value-append}
 use Rattle.tables.proofs.Colours.{SidesWithin, left-inUse, right-inUse, inUse-within}

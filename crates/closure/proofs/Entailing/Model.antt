@@ -2,7 +2,6 @@
 -- any in which congruent vertices are joined.
 use mathlib.Core.Bool.{Bool, _&&_}
 use mathlib.Core.List.{List, [], _∷_, _++_, map, List·Memᴰ, List·Memᴰ·head, List·Memᴰ·tail, Memᴰ·map}
-use mathlib.Core.Logic.{⊎-elim}
 use mathlib.Core.Option.{Option, some, none}
 use mathlib.Core.Path.{_≡_, refl, sym, ap, subst, _∙_}
 use Prim.Native.Nat.{ℕ, zero, suc, _<_}
@@ -20,8 +19,7 @@ use Rattle.tables.proofs.Terms.{map-agree, lower-append, value-law, value-appen
 use Rattle.tables.proofs.Colours.{SidesWithin}
 use Rattle.closure.specs.Graph.{Edge, Graph, label, joined, joinedPairwise}
 use Rattle.closure.specs.Steps.{congruent}
-use Rattle.closure.proofs.Walking.Joined.{joined-label, label-joined, label-cases}
-use Rattle.closure.proofs.Walking.Invariant.{Each}
+use Rattle.closure.proofs.Walking.Joined.{joined-label, label-joined}
 
 -- ---- labels
 
@@ -39,16 +37,6 @@ labels-joined G (x ∷ xs) (y ∷ ys) e =
 -- both ends of an edge pass the test
 abbrev pub Between : (ℕ → Bool) → Graph → Edge → Type 0
 Between vertex H e = T (vertex (e .left)) × T (vertex (e .right))
-
--- the label of a vertex is a vertex, where all edges are between vertices
-pub label-vertex : (vertex : ℕ → Bool) (G : Graph) → Each (Between vertex) G → (v : ℕ) → T (vertex v) → T (vertex (label G v))
-unfolding label
-label-vertex vertex [] p v h = h
-label-vertex vertex (e ∷ G) p v h =
-    ⊎-elim
-    (λ c. subst (λ (x : ℕ). T (vertex x)) (sym (c .1)) (label-vertex vertex G (p .1) (e .left) (p .0 .0)))
-    (λ c. subst (λ (x : ℕ). T (vertex x)) (sym (c .1)) (label-vertex vertex G (p .1) v h))
-    (label-cases e G v)
 
 -- ---- the interpretation
 
@@ -138,14 +126,6 @@ module _ (table : List Term) (low : LowerArguments table) (G : Graph) (vertex : 
   -- every vertex has its label for its value
   pub model-value : (v : ℕ) → T (vertex v) → value (model table G vertex) table v ≡ label G v
   model-value v h = value-below (suc v) v (le-refl (suc v)) h
-
-  -- vertices of one value are joined
-  pub model-joined : (u v : ℕ) → T (vertex u) → T (vertex v) → value (model table G vertex) table u ≡ value (model table G vertex) table v → T (joined G u v)
-  model-joined u v h k e = label-joined G u v (sym (model-value u h) ∙ e ∙ model-value v k)
-
-  -- and joined vertices have one value
-  pub joined-model : (u v : ℕ) → T (vertex u) → T (vertex v) → T (joined G u v) → value (model table G vertex) table u ≡ value (model table G vertex) table v
-  joined-model u v h k e = model-value u h ∙ joined-label G u v e ∙ sym (model-value v k)
 
 -- ---- literals in the model, where more terms may stand behind the given ones
 

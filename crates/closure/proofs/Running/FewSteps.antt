@@ -2,7 +2,7 @@
 use mathlib.Core.Bool.{Bool, true, false, cond}
 use mathlib.Core.List.{List, [], _∷_, _++_, List·Memᴰ, List·Memᴰ·head, List·Memᴰ·tail}
 use mathlib.Core.Logic.{⊎-elim}
-use mathlib.Core.Option.{some, none}
+use mathlib.Core.Option.{some}
 use mathlib.Core.Path.{_≡_, refl, sym, ap}
 use Prim.Native.Nat.{ℕ, zero, suc, _+_, _≤_, _<_}
 use native.Mathlib.Nat.{le-refl}
@@ -11,13 +11,13 @@ use lib.Dec.{T}
 use lib.ListN.{length, getD, length-append}
 use Rattle.tables.specs.Words.{below, keep}
 use Rattle.tables.specs.Terms.{Term, LowerArguments}
-use Rattle.tables.specs.LiteralTable.{Literal, equal}
+use Rattle.tables.specs.LiteralTable.{Literal}
 use Rattle.tables.specs.Colours.{inUse}
 use Rattle.tables.proofs.Words.{keep-mem, mem-keep, getD-mem, below-mem, mem-below, below-or-is, length-below}
 use Rattle.tables.proofs.Colours.{SidesWithin, inUse-within}
-use Rattle.closure.specs.Graph.{Graph, joined}
+use Rattle.closure.specs.Graph.{Graph}
 use Rattle.closure.specs.Steps.{State, tableOf, vertex, Run, NoStepLeft}
-use Rattle.closure.specs.OwnRun.{firstPair, ownRun}
+use Rattle.closure.specs.OwnRun.{ownRun}
 use Rattle.closure.proofs.Walking.Invariant.{Each, SoundEdge, Unjoined}
 use Rattle.closure.proofs.Walking.Count.{once-keep, once-below, EndsIn, fewer-edges}
 use Rattle.closure.proofs.Running.Larger.{each-map}
@@ -25,7 +25,7 @@ use Rattle.closure.proofs.Running.Vertices.{EndsAmong, vertex-cases, ve
 use Rattle.closure.proofs.Running.States.{SoundState, inUse-vertex}
 use Rattle.closure.proofs.Running.Runs.{run-sound, run-known}
 use Rattle.closure.proofs.Running.EdgesAndSteps.{edges-and-steps, run-adds}
-use Rattle.closure.proofs.Running.OwnRun.{FewSteps, own-run-ends, own-run-no-step-left}
+use Rattle.closure.proofs.Running.OwnRun.{FewSteps, own-run-no-step-left}
 
 -- ---- how many numbers pass a test
 
@@ -144,10 +144,6 @@ module _ (ts : List Term) (ls : List Literal) (low : LowerArguments ts) (within 
       go : (G : Graph) → st .graph ≡ G → Each (EndsAmong (vertex ts ls st)) G → length (st .graph) ≤ 510
       go [] e ends = omega (arith, ap length e)
       go (x ∷ G) e ends = omega (arith, edges-few ts ls st (run-sound ts ls low within run) (x .left) (ends .0 .0), few-added h run, used-given)
-
-  -- at the end of the library's own run no pair is left to derive, and the sides of every equality are joined
-  pub own-run-done : (st : State) → ownRun ts ls ≡ some st → (firstPair ts ls st ≡ none) × ((l : Literal) → List·Memᴰ l ls → l .kind ≡ equal → T (joined (st .graph) (l .left) (l .right)))
-  own-run-done st q = own-run-ends ts ls low within few-steps st q
 
   -- at the end of the library's own run no step is left
   pub own-run-complete : (st : State) → ownRun ts ls ≡ some st → NoStepLeft ts ls st

@@ -1,12 +1,11 @@
 -- What holds of every edge of a graph, over the edges older than it: the form of every invariant of a run.
 use mathlib.Core.List.{List, List·Memᴰ}
 use mathlib.Core.Path.{_≡_}
-use Prim.Native.Nat.{ℕ, _<_}
+use Prim.Native.Nat.{_<_}
 use lib.Dec.{T}
 use lib.ListN.{length}
-use Rattle.tables.specs.Terms.{Term, termAt, LowerArguments}
+use Rattle.tables.specs.Terms.{Term}
 use Rattle.tables.specs.LiteralTable.{Literal, equal}
-use Rattle.tables.specs.declared.Side.{Side}
 use Rattle.tables.specs.Colours.{edgeColourable}
 use Rattle.closure.specs.Graph.{Edge, EdgeKind, basic, derived, Graph}
 use Rattle.closure.specs.Steps.{congruent, HasSides}

@@ -8,8 +8,8 @@ use lib.Dec.{T, T-not, not-T}
 use Rattle.tables.proofs.Words.{decide}
 use Rattle.closure.specs.Graph.{Edge, Graph, Hop, Path, forth, back, joined, path, vertices}
 use Rattle.closure.specs.Walks.{HopOf, onward, backward, earlier, Walk, stay, hop, Once, nothing, new, IsPath}
-use Rattle.closure.proofs.Walking.Joined.{joined-self, joined-sym, joined-trans, joined-cases}
-use Rattle.closure.proofs.Walking.Walks.{older-joined, walk-joined, walk-append, path-aside, path-forward, path-backward, path-walk}
+use Rattle.closure.proofs.Walking.Joined.{joined-sym, joined-trans, joined-cases}
+use Rattle.closure.proofs.Walking.Walks.{older-joined, walk-joined, path-aside, path-forward, path-backward, path-walk}
 use Rattle.closure.proofs.Walking.Invariant.{Unjoined, Forest}
 
 -- ---- lists without repetition
@@ -50,11 +50,6 @@ walk-end (hop k q w) = List·Memᴰ·tail (walk-end w)
 pub walk-from : {G : Graph} {u v : ℕ} {h : Hop} {π : Path} → Walk G u v (h ∷ π) → u ≡ h .from
 walk-from (hop k q w) = q
 
--- two walks over the same hops, from the same vertex, have one end
-pub walk-ends : {G H : Graph} {u v w : ℕ} {π : Path} → Walk G u v π → Walk H u w π → v ≡ w
-walk-ends (stay q) (stay r) = sym q ∙ r
-walk-ends (hop k q w) (hop m r z) = walk-ends w z
-
 -- a walk over hops in two parts is two walks
 pub walk-split : {G : Graph} {u v : ℕ} (π ρ : Path) → Walk G u v (π ++ ρ) → (x : ℕ) × Walk G u x π × Walk G x v ρ
 walk-split {u = u} [] ρ w = (u, stay refl, w)
@@ -72,21 +67,6 @@ walk-at {G} {u} {v} {x} (hop {h = h} {π = π} k q w) m = go (List·Memᴰ·case
 -- every vertex on a walk is joined to its start
 pub vertex-joined : {G : Graph} {u v x : ℕ} {π : Path} → Walk G u v π → List·Memᴰ x (vertices u π) → T (joined G u x)
 vertex-joined w m = walk-joined (walk-at w m .3)
-
--- a walk is cut in two at each of its hops
-pub walk-by : {G : Graph} {u v : ℕ} {π : Path} {h : Hop} → Walk G u v π → List·Memᴰ h π → (ρ : Path) × (σ : Path) × (π ≡ ρ ++ (h ∷ σ)) × Walk G u (h .from) ρ × Walk G (h .to) v σ
-walk-by {G} {u} {v} {h = h} (hop {π = π} k q w) (List·Memᴰ·head e) =
-    ([], π, ap (λ (g : Hop). g ∷ π) (sym e), stay (q ∙ ap (λ (g : Hop). g .from) (sym e)), subst (λ (g : Hop). Walk G (g .to) v π) (sym e) w)
-walk-by (hop {h = g} k q w) (List·Memᴰ·tail m) = let r = walk-by w m in (g ∷ r .0, r .1, ap (λ (τ : Path). g ∷ τ) (r .2), hop k q (r .3), r .4)
-
--- a walk stands where each of its hops begins
-pub from-on : {G : Graph} {u v : ℕ} {π : Path} {h : Hop} → Walk G u v π → List·Memᴰ h π → List·Memᴰ (h .from) (vertices u π)
-from-on (hop k q w) (List·Memᴰ·head e) = List·Memᴰ·head (ap (λ (g : Hop). g .from) e ∙ sym q)
-from-on (hop k q w) (List·Memᴰ·tail m) = List·Memᴰ·tail (from-on w m)
-
--- and where it ends
-pub to-on : (u : ℕ) {π : Path} {h : Hop} → List·Memᴰ h π → List·Memᴰ (h .to) (vertices u π)
-to-on u m = List·Memᴰ·tail (Memᴰ·map (λ h. h .to) m)
 
 -- ---- hops walked the other way
 
@@ -131,12 +111,6 @@ mem-backwards (List·Memᴰ·tail {x = g} m) = Memᴰ·append-left (turned g ∷
 -- and what is met on the way back is a turned hop of the path
 pub backwards-mem : (h : Hop) (π : Path) → List·Memᴰ h (backwards π) ↔ List·Memᴰ (turned h) π
 backwards-mem h π = (λ m. subst (λ (τ : Path). List·Memᴰ (turned h) τ) (backwards-twice π) (mem-backwards m), λ m. mem-backwards m)
-
--- a walk backwards is a walk from the other end
-pub backwards-walk : {G : Graph} {u v : ℕ} {π : Path} → Walk G u v π → Walk G v u (backwards π)
-unfolding backwards
-backwards-walk (stay q) = stay (sym q)
-backwards-walk (hop k q w) = walk-append (backwards-walk w) (hop (turned-hop k) refl (stay (sym q)))
 
 -- ---- the newest edge
 
@@ -192,10 +166,6 @@ path-once (e ∷ G) u v j = path-cases (λ (π : Path). Once (vertices u π)) e 
 pub path-is : (G : Graph) (u v : ℕ) → T (joined G u v) → IsPath G u v (path G u v)
 path-is G u v j = record { walk = path-walk G u v j; once = path-once G u v j }
 
--- every vertex on a path is joined to its start
-pub path-vertex-joined : (G : Graph) (u v : ℕ) → T (joined G u v) → {x : ℕ} → List·Memᴰ x (vertices u (path G u v)) → T (joined G u x)
-path-vertex-joined G u v j m = vertex-joined (path-walk G u v j) m
-
 -- the path from the other end is the path walked backwards
 pub path-back : (G : Graph) (u v : ℕ) → T (joined G u v) → path G v u ≡ backwards (path G u v)
 unfolding path backwards
@@ -210,12 +180,6 @@ path-back (e ∷ G) u v j = path-cases (λ (π : Path). path (e ∷ G) v u ≡ b
         ap (λ (τ : Path). τ ++ (turned h ∷ path G (h .from) u)) q ∙
         ap (λ (τ : Path). backwards (path G (h .to) v) ++ (turned h ∷ τ)) p ∙
         sym (backwards-by-way (path G u (h .from)) h (path G (h .to) v))
-
--- the path of a term to itself has no hop
-pub path-self : (G : Graph) (u : ℕ) → path G u u ≡ []
-unfolding path
-path-self [] u = refl
-path-self (e ∷ G) u = path-aside e G u u (joined-self G u) ∙ path-self G u
 
 -- a path in the edges under the newest one is the path in the graph
 path-of-older : (u v : ℕ) (e : Edge) (G : Graph) {H : Graph} → H ≡ G → T (joined H u v) → path H u v ≡ path (e ∷ G) u v
@@ -330,30 +294,3 @@ stretch-is {x = x} π (h ∷ ρ) σ p w =
     let s = is-split (h ∷ ρ) σ (r .2) in
     let q : r .0 ≡ x = walk-from (r .2 .walk) ∙ sym (walk-from w) in
     record { walk = w; once = subst (λ (z : ℕ). Once (vertices z (h ∷ ρ))) q (s .1 .once) }
-
--- a stretch of a path is the path between its ends
-pub path-stretch : (G : Graph) → Forest G → (u v : ℕ) → T (joined G u v) → {x y : ℕ} (π ρ σ : Path) → path G u v ≡ π ++ (ρ ++ σ) → Walk G x y ρ → ρ ≡ path G x y
-path-stretch G f u v j π ρ σ q w = one-path G f (stretch-is π ρ σ (subst (IsPath G u v) q (path-is G u v j)) w)
-
--- the path in two parts, wherever it is cut: each part is the path between its ends
-pub path-parts : (G : Graph) → Forest G → (u v : ℕ) → T (joined G u v) → (π ρ : Path) → path G u v ≡ π ++ ρ → (x : ℕ) × T (joined G u x) × (π ≡ path G u x) × T (joined G x v) × (ρ ≡ path G x v)
-path-parts G f u v j π ρ q =
-    let r = is-split π ρ (subst (IsPath G u v) q (path-is G u v j)) in
-    (r .0, walk-joined (r .1 .walk), one-path G f (r .1), walk-joined (r .2 .walk), one-path G f (r .2))
-
--- a path is cut, at each vertex that it stands on, into the paths from its start and to its end
-pub path-at : (G : Graph) → Forest G → (u v : ℕ) → T (joined G u v) → {x : ℕ} → List·Memᴰ x (vertices u (path G u v)) → path G u v ≡ path G u x ++ path G x v
-path-at G f u v j {x} m =
-    let r = walk-at (path-walk G u v j) m in
-    let near : r .0 ≡ path G u x = path-stretch G f u v j [] (r .0) (r .1) (r .2) (r .3) in
-    let far : r .1 ≡ path G x v = path-stretch G f u v j (r .0) (r .1) [] (r .2 ∙ ap (λ (τ : Path). r .0 ++ τ) (sym (append-nil (r .1)))) (r .4) in
-    r .2 ∙ ap (λ (τ : Path). τ ++ r .1) near ∙ ap (λ (τ : Path). path G u x ++ τ) far
-
--- and by way of each of its hops
-pub path-via : (G : Graph) → Forest G → (u v : ℕ) → T (joined G u v) → {h : Hop} → List·Memᴰ h (path G u v) → path G u v ≡ path G u (h .from) ++ (h ∷ path G (h .to) v)
-path-via G f u v j {h} m =
-    let r = walk-by (path-walk G u v j) m in
-    let near : r .0 ≡ path G u (h .from) = path-stretch G f u v j [] (r .0) (h ∷ r .1) (r .2) (r .3) in
-    let cut : path G u v ≡ (r .0 ++ (h ∷ [])) ++ (r .1 ++ []) = r .2 ∙ ap (λ (τ : Path). r .0 ++ (h ∷ τ)) (sym (append-nil (r .1))) ∙ sym (append-assoc (r .0) (h ∷ []) (r .1 ++ [])) in
-    let far : r .1 ≡ path G (h .to) v = path-stretch G f u v j (r .0 ++ (h ∷ [])) (r .1) [] cut (r .4) in
-    r .2 ∙ ap (λ (τ : Path). τ ++ (h ∷ r .1)) near ∙ ap (λ (τ : Path). path G u (h .from) ++ (h ∷ τ)) far

@@ -1,15 +1,15 @@
 -- "Two terms are joined when a path connects them": joined is what walks connect, and `path` is such a walk.
-use mathlib.Core.Bool.{Bool, true, false, cond, not}
-use mathlib.Core.List.{List, [], _∷_, _++_, List·Memᴰ, List·Memᴰ·head, List·Memᴰ·tail}
-use mathlib.Core.Logic.{_⊎_, inl, inr, ⊎-elim}
+use mathlib.Core.Bool.{not}
+use mathlib.Core.List.{[], _∷_, _++_, List·Memᴰ, List·Memᴰ·head, List·Memᴰ·tail}
+use mathlib.Core.Logic.{_⊎_, inl, inr}
 use mathlib.Core.Path.{_≡_, refl, sym, ap, subst, _∙_}
-use Prim.Native.Nat.{ℕ, suc, _≤_, _<_}
+use Prim.Native.Nat.{ℕ, _<_}
 use native.Mathlib.Nat.{le-refl}
 use native.Mathlib.Omega.{arith}
 use lib.Dec.{T}
 use lib.ListN.{length}
 use Rattle.tables.proofs.Words.{by-test, passes, fails, passed, failed}
-use Rattle.closure.specs.Graph.{Edge, Graph, Hop, Path, forth, back, label, joined, path}
+use Rattle.closure.specs.Graph.{Edge, Graph, Hop, Path, forth, back, joined, path}
 use Rattle.closure.specs.Walks.{HopOf, onward, backward, earlier, Walk, stay, hop}
 use Rattle.closure.proofs.Walking.Joined.{joined-self, joined-sym, joined-trans, joined-more, joined-ends, joined-nothing, joined-cases}
 use Rattle.closure.proofs.Walking.Invariant.{Each}
@@ -33,12 +33,6 @@ pub older-fewer : {h : Hop} {G : Graph} → HopOf h G → length (h .older) < le
 older-fewer (onward {e = e} {G = G} q) = subst (λ (H : Graph). length H < length (e ∷ G)) (sym (ap (λ (g : Hop). g .older) q)) (le-refl (length (e ∷ G)))
 older-fewer (backward {e = e} {G = G} q) = subst (λ (H : Graph). length H < length (e ∷ G)) (sym (ap (λ (g : Hop). g .older) q)) (le-refl (length (e ∷ G)))
 older-fewer (earlier k) = omega (arith, older-fewer k)
-
--- and their hops are hops of the whole graph
-pub older-hop : {h g : Hop} {G : Graph} → HopOf h G → HopOf g (h .older) → HopOf g G
-older-hop {g = g} (onward q) k = earlier (subst (HopOf g) (ap (λ (x : Hop). x .older) q) k)
-older-hop {g = g} (backward q) k = earlier (subst (HopOf g) (ap (λ (x : Hop). x .older) q) k)
-older-hop (earlier m) k = earlier (older-hop m k)
 
 -- what older edges join stays joined
 pub older-joined : {h : Hop} {G : Graph} (u v : ℕ) → HopOf h G → T (joined (h .older) u v) → T (joined G u v)

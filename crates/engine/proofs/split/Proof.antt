@@ -14,7 +14,7 @@ use Rattle.tables.specs.declared.Check.{Check}
 use Rattle.tables.specs.declared.Check.the-variants.{Sound}
 use Rattle.tables.specs.declared.Tables.{Tables}
 use Rattle.tables.proofs.Check.{the-type}
-use Rattle.closure.specs.Opening.{ReadFrom}
+use Rattle.running.specs.Opening.{ReadFrom}
 use Rattle.demands.specs.declared.Answer.{Answer}
 use Rattle.demands.specs.Call.{Buffers, Returned}
 use Rattle.demands.proofs.Ways.{judged-refused, judged-ended}

@@ -1,6 +1,6 @@
 -- `engine::answers::consistent` meets its contract.
 use native.Mathlib.Omega.{arith}
-use Rattle.closure.proofs.InArrays.Beginning.{terms-fit}
+use Rattle.running.proofs.Beginning.{terms-fit}
 use Rattle.engine.proofs.Answering.{consistent-short, consistent-room}
 use borrow.Author.Needs.{needs}
 use Rattle.engine.proofs.answers.consistent.Statement.{statement}

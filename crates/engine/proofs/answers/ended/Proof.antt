@@ -7,11 +7,11 @@ use Prim.Native.Nat.{ℕ}
 use native.Mathlib.Omega.{arith}
 use Rattle.tables.specs.declared.Tables.{Tables}
 use Rattle.closure.specs.Steps.{State}
-use Rattle.closure.specs.Shown.{Shows}
+use Rattle.running.specs.Shown.{Shows}
 use Rattle.closure.specs.OwnRun.{ownRun}
-use Rattle.closure.specs.Opening.{ReadFrom}
-use Rattle.closure.specs.Stepping.{Ends as RunEnds}
-use Rattle.closure.specs.declared.step.Stepped.{Stepped}
+use Rattle.running.specs.Opening.{ReadFrom}
+use Rattle.running.specs.Stepping.{Ends as RunEnds}
+use Rattle.running.specs.declared.state.Stepped.{Stepped}
 use Rattle.demands.specs.Call.{ended}
 use Rattle.engine.specs.Ending.{Ends, termsIn, literalsIn}
 use borrow.Author.Needs.{needs}

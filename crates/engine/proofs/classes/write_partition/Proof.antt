@@ -9,7 +9,7 @@ use Rattle.tables.specs.Bytes.{wordBytes}
 use Rattle.demands.specs.Buffers.{writtenOver}
 use Rattle.engine.specs.Ending.{classBy}
 use Rattle.engine.proofs.Writing.{Written, written-none, written-more, written-all}
-use Rattle.closure.proofs.InArrays.Beginning.{terms-fit}
+use Rattle.running.proofs.Beginning.{terms-fit}
 use Rattle.engine.proofs.Searches.{classes-are}
 use Rattle.engine.proofs.classes.write_partition.Statement.{statement}
 use Rattle.engine.proofs.classes.write_partition.Tie as tie

@@ -1,6 +1,6 @@
 -- `engine::summaries::clause_records` meets its contract: the clause layer is handed the last graph, and reads it.
 use native.Mathlib.Omega.{arith}
-use Rattle.closure.proofs.InArrays.BasicSteps.{literals-fit}
+use Rattle.running.proofs.BasicSteps.{literals-fit}
 use Rattle.closure.specs.Steps.{tableOf}
 use Rattle.engine.specs.Ending.{termsIn, literalsIn}
 use Rattle.engine.proofs.AddedRecords.{all-fit}

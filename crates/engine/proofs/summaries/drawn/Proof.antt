@@ -1,5 +1,5 @@
 -- `engine::summaries::drawn` meets its contract: the arrays that it lays out hold the last graph.
-use Rattle.closure.proofs.InArrays.OnRuns.{can-root}
+use Rattle.running.proofs.OnRuns.{can-root}
 use Rattle.engine.proofs.LastState.{on-run, drawn-of}
 use borrow.Author.Needs.{needs}
 use Rattle.engine.proofs.summaries.drawn.Statement.{statement}

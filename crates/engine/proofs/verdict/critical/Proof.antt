@@ -4,7 +4,7 @@ use Prim.Native.Nat.{_-_, _<_}
 use native.Mathlib.Omega.{arith}
 use lib.ListN.{getD}
 use Rattle.tables.proofs.Records.{NotYet, not-yet, first-found, not-more, not-found}
-use Rattle.closure.proofs.InArrays.BasicSteps.{literals-fit, sides-small}
+use Rattle.running.proofs.BasicSteps.{literals-fit, sides-small}
 use Rattle.engine.proofs.Searches.{metIn, met-first}
 use Rattle.engine.proofs.verdict.critical.Statement.{statement}
 use Rattle.engine.proofs.verdict.critical.Tie as tie

@@ -1,0 +1,31 @@
+-- Arrays that a loop fills from the front.
+use mathlib.Core.List.{List, _++_, map}
+use mathlib.Core.Path.{_≡_, sym, ap, ap₂, _∙_}
+use Prim.Native.Nat.{ℕ, suc, _+_, _-_, _≤_, _<_, min}
+use native.Mathlib.Omega.{arith}
+use lib.ListN.{getD, set, replicate}
+use lib.Seq.{set-getD, getD-at}
+use Rattle.tables.specs.Words.{below}
+use Rattle.tables.specs.Read.{filled}
+use Rattle.tables.proofs.Records.{written-more, Filling, filling-more}
+use Rattle.tables.proofs.Filled.{length-map-below, filled-agree}
+
+-- a filled array with one place more
+pub filled-next {ℓ} : {X : Type ℓ} (size : ℕ) (filler : X) (n : ℕ) (f g : ℕ → X) (x : X) → n < size → ((k : ℕ) → k < n → f k ≡ g k) → x ≡ g n → set (filled size filler n f) n x ≡ filled size filler (n + 1) g
+unfolding filled
+filled-next {X = X} size filler n f g x h same e =
+    let fits : min n size ≡ n = omega arith in
+    let fits-more : n + 1 ≡ min (n + 1) size = omega arith in
+    ap₂ (λ (xs : List X) (y : X). set xs n y) (filled-agree size filler n f g same ∙ ap (λ (k : ℕ). map g (below k) ++ replicate (size - n) filler) fits) e ∙
+    written-more size filler g n h ∙
+    ap (λ (k : ℕ). map g (below k) ++ replicate (size - (n + 1)) filler) fits-more
+
+-- a turn that leaves the filler in its place, where that is what the array is to hold
+pub filling-kept {ℓ} : {X : Type ℓ} (size : ℕ) (filler : X) (f : ℕ → X) (n i : ℕ) (xs : List X) → n ≤ size → Filling size filler f n i xs → i < n → filler ≡ f i → Filling size filler f n (i + 1) xs
+filling-kept {X = X} size filler f n i xs h w l e =
+    let r = filling-more size filler f n i xs filler h w l e in
+    let rest : size - i ≡ suc (size - (i + 1)) = omega arith in
+    let there : getD xs i filler ≡ filler =
+    ap (λ (ys : List X). getD ys i filler) (w .1 ∙ ap (λ (k : ℕ). map f (below i) ++ replicate k filler) rest) ∙
+    getD-at (map f (below i)) filler (replicate (size - (i + 1)) filler) filler i (length-map-below f i) in
+    (r .0, sym (set-getD xs i filler) ∙ ap (λ (x : X). set xs i x) there ∙ r .1)

@@ -1,0 +1,197 @@
+-- The arrays go on showing the state: with one edge more, and with one term more.
+use mathlib.Core.Bool.{Bool, true, false, cond}
+use mathlib.Core.List.{List, [], _∷_, _++_, map, append-assoc}
+use mathlib.Core.Path.{_≡_, refl, sym, ap, ap₂, _∙_}
+use Prim.Native.Nat.{ℕ, suc, _+_, _-_, _<_}
+use native.Mathlib.Numerals.{add-one}
+use native.Mathlib.Omega.{arith}
+use borrow.Author.Tests.{le-ltb, lt-ltb}
+use lib.Dec.{T, eqb, ltb}
+use lib.ListN.{length, getD, take, set, replicate, length-append, List·getD-append}
+use lib.Seq.{getD-at, take-append-seam}
+use Rattle.tables.specs.Words.{every}
+use Rattle.tables.specs.Terms.{Term, noTerm, termAt, LowerArguments, symbols}
+use Rattle.tables.specs.LiteralTable.{Literal}
+use Rattle.tables.specs.declared.Side.{Side}
+use Rattle.tables.specs.declared.Side.the-variants.{A, B}
+use Rattle.tables.specs.Colours.{inUse, occursIn, colourable, shared}
+use Rattle.tables.specs.Read.{filled, colourNumber}
+use Rattle.tables.proofs.Words.{and-left, and-right, passed}
+use Rattle.tables.proofs.Terms.{symbols-append}
+use Rattle.tables.proofs.Filled.{filled-at}
+use Rattle.closure.specs.Graph.{Graph, label}
+use Rattle.closure.specs.declared.Edge.{Edge}
+use Rattle.closure.specs.declared.EdgeKind.{EdgeKind}
+use Rattle.closure.specs.Steps.{State, tableOf, vertex, withEdge}
+use Rattle.graphs.specs.Layout.{edgesOf, labelsOf}
+use Rattle.running.specs.Shown.{padded, rowFor, column, Shows, withTerm}
+use Rattle.running.specs.Keys.{noRow}
+use Rattle.running.specs.declared.Row.{Row}
+use Rattle.graphs.specs.declared.graph.Graph.{Graph as Kept}
+use Rattle.running.specs.declared.state.State.{State as Arrays}
+use Rattle.running.proofs.Arrays.{filled-next}
+use Rattle.graphs.proofs.LabelArray.{label-at, labels-edge}
+
+-- the arrays with another graph and other labels
+abbrev pub regraphed : Arrays → Kept → List ℕ → Arrays
+regraphed s g labels =
+    record { terms = s .terms; symbols = s .symbols; arities = s .arities; rows = s .rows; colours = s .colours; vertices = s .vertices; graph = g; labels = labels }
+
+-- the rule by which one edge changes a label
+abbrev pub relabelling : List ℕ → ℕ → ℕ → ℕ → ℕ
+relabelling labels left right x = cond (eqb x (getD labels right 0)) (getD labels left 0) x
+
+module _ (ts : List Term) (ls : List Literal) (st : State) (s : Arrays) (h : Shows ts ls st s) where
+  -- the label of a term stands in its place
+  pub shown-label : (v : ℕ) → v < 511 → getD (s .labels) v 0 ≡ label (st .graph) v
+  shown-label v l = ap (λ (xs : List ℕ). getD xs v 0) (h .labels) ∙ label-at (st .graph) v 0 l
+
+  -- so does what else is said of a term
+  pub shown-symbol : (v : ℕ) → v < length (tableOf ts st) → getD (s .symbols) v 0 ≡ termAt (tableOf ts st) v .symbol
+  shown-symbol v l = ap (λ (xs : List ℕ). getD xs v 0) (h .symbols) ∙ filled-at (λ k. termAt (tableOf ts st) k .symbol) 511 0 (length (tableOf ts st)) v 0 l (h .within)
+
+  pub shown-arity : (v : ℕ) → v < length (tableOf ts st) → getD (s .arities) v 0 ≡ length (termAt (tableOf ts st) v .arguments)
+  shown-arity v l = ap (λ (xs : List ℕ). getD xs v 0) (h .arities) ∙ filled-at (λ k. length (termAt (tableOf ts st) k .arguments)) 511 0 (length (tableOf ts st)) v 0 l (h .within)
+
+  pub shown-row : (v : ℕ) → v < length (tableOf ts st) → getD (s .rows) v noRow ≡ rowFor (termAt (tableOf ts st) v .arguments)
+  shown-row v l = ap (λ (xs : List Row). getD xs v noRow) (h .rows) ∙ filled-at (λ k. rowFor (termAt (tableOf ts st) k .arguments)) 511 (rowFor []) (length (tableOf ts st)) v noRow l (h .within)
+
+  pub shown-colour : (v : ℕ) → v < length (tableOf ts st) → getD (s .colours) v 0 ≡ colourNumber ts ls (tableOf ts st) v
+  shown-colour v l = ap (λ (xs : List ℕ). getD xs v 0) (h .colours) ∙ filled-at (colourNumber ts ls (tableOf ts st)) 511 0 (length (tableOf ts st)) v 0 l (h .within)
+
+  pub shown-vertex : (v : ℕ) → v < length (tableOf ts st) → getD (s .vertices) v false ≡ vertex ts ls st v
+  shown-vertex v l = ap (λ (xs : List Bool). getD xs v false) (h .vertices) ∙ filled-at (vertex ts ls st) 511 false (length (tableOf ts st)) v false l (h .within)
+
+  -- a given term is a term of the table
+  pub given-within : (v : ℕ) → v < length ts → v < length (tableOf ts st)
+  given-within v l = omega (arith, length-append ts (st .added))
+
+  -- a given term is a vertex where it is in use
+  pub shown-in-use : (v : ℕ) → v < length ts → getD (s .vertices) v false ≡ inUse ts ls v
+  unfolding vertex
+  shown-in-use v l = shown-vertex v (given-within v l) ∙ ap (λ (b : Bool). cond b (inUse ts ls v) (ltb v (length (tableOf ts st)))) (lt-ltb v (length ts) l)
+
+  -- the used fields of a term's row are its arguments
+  pub shown-arguments : (v : ℕ) → v < length (tableOf ts st) → (n : ℕ) → n ≡ length (termAt (tableOf ts st) v .arguments) → take n (getD (s .rows) v noRow .args) ≡ termAt (tableOf ts st) v .arguments
+  unfolding padded
+  shown-arguments v l n e =
+      let xs = termAt (tableOf ts st) v .arguments in
+      ap₂ (λ (k : ℕ) (r : Row). take k (r .args)) e (shown-row v l) ∙ take-append-seam xs (replicate (4 - length xs) 0)
+
+  -- the labels as the rule changes them are those of one edge more
+  pub shown-labels : (e : Edge) → e .left < 511 → e .right < 511 → map (relabelling (s .labels) (e .left) (e .right)) (s .labels) ≡ labelsOf (e ∷ st .graph)
+  shown-labels e l r =
+      ap (λ (xs : List ℕ). map (relabelling (s .labels) (e .left) (e .right)) xs) (h .labels) ∙
+      ap₂ (λ (from to : ℕ). map (λ x. cond (eqb x from) to x) (labelsOf (st .graph))) (shown-label (e .right) r) (shown-label (e .left) l) ∙
+      labels-edge e (st .graph)
+
+  -- one edge more
+  pub shows-edge : (left right : ℕ) (colour : Side) (kind : EdgeKind) (g : Kept) (labels : List ℕ) → left < 511 → right < 511 → edgesOf g ≡ record { left = left; right = right; colour = colour; kind = kind } ∷ edgesOf (s .graph) → g .count ≡ s .graph .count + 1 → labels ≡ map (relabelling (s .labels) left right) (s .labels) → Shows ts ls (withEdge st left right colour kind) (regraphed s g labels)
+  unfolding vertex
+  shows-edge left right colour kind g labels l r edges count new =
+      let e : Edge = record { left = left; right = right; colour = colour; kind = kind } in
+      record {
+        within = h .within;
+        terms = h .terms;
+        symbols = h .symbols;
+        arities = h .arities;
+        rows = h .rows;
+        colours = h .colours;
+        vertices = h .vertices;
+        edges = edges ∙ ap (λ (G : Graph). e ∷ G) (h .edges);
+        count = count ∙ add-one (s .graph .count) ∙ ap suc (h .count);
+        labels = new ∙ shown-labels e l r;
+      }
+
+-- ---- one term more
+
+-- a shared term has both colours
+pub shared-number : (ts : List Term) (ls : List Literal) (table : List Term) (v : ℕ) → T (shared ts ls table v) → colourNumber ts ls table v ≡ 3
+unfolding shared colourNumber
+shared-number ts ls table v h =
+    ap₂ (λ (a b : Bool). cond a 1 0 + cond b 2 0)
+    (passed (colourable ts ls A table v) (and-left (colourable ts ls A table v) (colourable ts ls B table v) h))
+    (passed (colourable ts ls B table v) (and-right (colourable ts ls A table v) (colourable ts ls B table v) h))
+
+-- terms behind the table change no colour
+pub number-append : (ts : List Term) (ls : List Literal) (table more : List Term) → LowerArguments table → (v : ℕ) → v < length table → colourNumber ts ls (table ++ more) v ≡ colourNumber ts ls table v
+unfolding colourNumber colourable
+number-append ts ls table more lower v h =
+    ap (λ (fs : List ℕ). cond (every (occursIn ts ls A) fs) 1 0 + cond (every (occursIn ts ls B) fs) 2 0)
+    (symbols-append table more lower v h)
+
+module _ (ts : List Term) (ls : List Literal) (st : State) (m : Term) where
+  -- the table with the added term behind
+  table-more : tableOf ts (withTerm st m) ≡ tableOf ts st ++ (m ∷ [])
+  table-more = sym (append-assoc ts (st .added) (m ∷ []))
+
+  length-more : length (tableOf ts (withTerm st m)) ≡ length (tableOf ts st) + 1
+  length-more = ap length table-more ∙ length-append (tableOf ts st) (m ∷ [])
+
+  -- the terms before it stay
+  term-before : (k : ℕ) → k < length (tableOf ts st) → termAt (tableOf ts st) k ≡ termAt (tableOf ts (withTerm st m)) k
+  term-before k h = sym (ap (λ (table : List Term). termAt table k) table-more ∙ List·getD-append (tableOf ts st) (m ∷ []) noTerm k h)
+
+  -- it has the next number
+  term-new : m ≡ termAt (tableOf ts (withTerm st m)) (length (tableOf ts st))
+  term-new = sym (ap (λ (table : List Term). termAt table (length (tableOf ts st))) table-more ∙ getD-at (tableOf ts st) m [] noTerm (length (tableOf ts st)) refl)
+
+  -- an array that says something of each term, with one place more
+  column-more {ℓ} : {X : Type ℓ} (filler : X) (f g : ℕ → X) (x : X) → length (tableOf ts st) < 511 → ((k : ℕ) → k < length (tableOf ts st) → f k ≡ g k) → x ≡ g (length (tableOf ts st)) → set (column filler (tableOf ts st) f) (length (tableOf ts st)) x ≡ column filler (tableOf ts (withTerm st m)) g
+  column-more filler f g x h same e =
+      filled-next 511 filler (length (tableOf ts st)) f g x h same e ∙ ap (λ (k : ℕ). filled 511 filler k g) (sym length-more)
+
+  -- what was a vertex is one, and nothing else
+  vertex-before : (k : ℕ) → k < length (tableOf ts st) → vertex ts ls st k ≡ vertex ts ls (withTerm st m) k
+  unfolding vertex
+  vertex-before k h =
+      ap (λ (b : Bool). cond (ltb k (length ts)) (inUse ts ls k) b)
+      (lt-ltb k (length (tableOf ts st)) h ∙ sym (lt-ltb k (length (tableOf ts (withTerm st m))) (omega (arith, length-more))))
+
+  -- the added term is a vertex
+  vertex-new : true ≡ vertex ts ls (withTerm st m) (length (tableOf ts st))
+  unfolding vertex
+  vertex-new =
+      let n = length (tableOf ts st) in
+      sym
+      (ap₂ (λ (a b : Bool). cond a (inUse ts ls n) b)
+      (le-ltb n (length ts) (omega (arith, length-append ts (st .added))))
+      (lt-ltb n (length (tableOf ts (withTerm st m))) (omega (arith, length-more))))
+
+-- the arrays with one term more at a place
+abbrev pub enlarged : Arrays → ℕ → ℕ → Row → ℕ → Arrays
+enlarged s symbol arity row n =
+    record { terms = n + 1; symbols = set (s .symbols) n symbol; arities = set (s .arities) n arity; rows = set (s .rows) n row; colours = set (s .colours) n 3; vertices = set (s .vertices) n true; graph = s .graph; labels = s .labels }
+
+pub shows-term : (ts : List Term) (ls : List Literal) (st : State) (s : Arrays) (m : Term) (symbol arity : ℕ) (row : Row) → s .terms < 511 → Shows ts ls st s → LowerArguments (tableOf ts st) → m .symbol ≡ symbol → length (m .arguments) ≡ arity → row .args ≡ padded (m .arguments) → T (shared ts ls (tableOf ts st ++ (m ∷ [])) (length (tableOf ts st))) → Shows ts ls (withTerm st m) (enlarged s symbol arity row (s .terms))
+shows-term ts ls st s m symbol arity row small h lower symbol-is arity-is row-is shared-is =
+    let n = length (tableOf ts st) in
+    let more = tableOf ts (withTerm st m) in
+    let fits : n < 511 = omega (arith, h .terms) in
+    let before : (k : ℕ) → k < n → termAt (tableOf ts st) k ≡ termAt more k = term-before ts ls st m in
+    let new = term-new ts ls st m in
+    let row-new : row ≡ rowFor (m .arguments) = λ i. record { args = row-is i } in
+    record {
+      within = omega (arith, length-more ts ls st m);
+      terms = ap (λ (k : ℕ). k + 1) (h .terms) ∙ sym (length-more ts ls st m);
+      symbols =
+          ap₂ (λ (xs : List ℕ) (k : ℕ). set xs k symbol) (h .symbols) (h .terms) ∙
+          column-more ts ls st m 0 _ (λ v. termAt more v .symbol) symbol fits (λ k l. ap (λ (t : Term). t .symbol) (before k l)) (sym symbol-is ∙ ap (λ (t : Term). t .symbol) new);
+      arities =
+          ap₂ (λ (xs : List ℕ) (k : ℕ). set xs k arity) (h .arities) (h .terms) ∙
+          column-more ts ls st m 0 _ (λ v. length (termAt more v .arguments)) arity fits (λ k l. ap (λ (t : Term). length (t .arguments)) (before k l)) (sym arity-is ∙ ap (λ (t : Term). length (t .arguments)) new);
+      rows =
+          ap₂ (λ (xs : List Row) (k : ℕ). set xs k row) (h .rows) (h .terms) ∙
+          column-more ts ls st m (rowFor []) _ (λ v. rowFor (termAt more v .arguments)) row fits (λ k l. ap (λ (t : Term). rowFor (t .arguments)) (before k l)) (row-new ∙ ap (λ (t : Term). rowFor (t .arguments)) new);
+      colours =
+          ap₂ (λ (xs : List ℕ) (k : ℕ). set xs k 3) (h .colours) (h .terms) ∙
+          column-more ts ls st m 0 _ (colourNumber ts ls more) 3 fits
+          (λ k l. sym (ap (λ (table : List Term). colourNumber ts ls table k) (table-more ts ls st m) ∙ number-append ts ls (tableOf ts st) (m ∷ []) lower k l))
+          (sym (ap (λ (table : List Term). colourNumber ts ls table n) (table-more ts ls st m) ∙ shared-number ts ls (tableOf ts st ++ (m ∷ [])) n shared-is));
+      vertices =
+          ap₂ (λ (xs : List Bool) (k : ℕ). set xs k true) (h .vertices) (h .terms) ∙
+          column-more ts ls st m false _ (vertex ts ls (withTerm st m)) true fits (vertex-before ts ls st m) (vertex-new ts ls st m);
+      edges = h .edges;
+      count = h .count;
+      labels = h .labels;
+    }

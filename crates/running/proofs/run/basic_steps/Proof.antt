@@ -1,0 +1,122 @@
+-- `running::run::basic_steps` meets its contract. The invariant: the arrays show the state after the records passed. The measure is what is left of them.
+use mathlib.Core.Logic.{⊎-elim}
+use mathlib.Core.Path.{sym, subst}
+use Prim.Native.Nat.{_+_, _-_, _≤_, _<_}
+use native.Mathlib.Omega.{arith}
+use lib.ListN.{getD}
+use Rattle.tables.specs.TermTable.{termsOf}
+use Rattle.tables.specs.LiteralTable.{literalsOf}
+use Rattle.running.specs.declared.state.State.{State as Arrays}
+use Rattle.running.specs.Opening.{ReadFrom, Opens}
+use Rattle.running.proofs.BasicSteps.{ShowsAfter, literals-fit, sides-small, after-none, after-all, after-edges, turn-taken, turn-left}
+use Rattle.running.proofs.run.basic_steps.Statement.{statement}
+use Rattle.running.proofs.run.basic_steps.Tie as tie
+
+abbrev Inv-loop : tie.InvT-loop
+Inv-loop t count st₀ i₀ st i = (i ≤ count) × ((from : ReadFrom t) → Opens from st₀ → ShowsAfter t from i st)
+
+abbrev μ-loop : tie.MeasureT-loop
+μ-loop t count st₀ i₀ st i = count - i
+
+loop-holds : tie.Need-loop-holds Inv-loop μ-loop
+loop-holds c = (omega arith, λ from h. after-none _ from _ h)
+
+mul-left : tie.Need-mul-left Inv-loop μ-loop
+mul-left c = omega (arith, literals-fit (c .before .before .args .t1) (c .before .before .pre .0))
+
+element-copy-out-left : tie.Need-element-copy-out-left Inv-loop μ-loop
+element-copy-out-left c = omega (arith, literals-fit (c .before .before .args .t1) (c .before .before .pre .0))
+
+mul-right : tie.Need-mul-right Inv-loop μ-loop
+mul-right c = omega (arith, literals-fit (c .before .before .before .args .t1) (c .before .before .before .pre .0))
+
+element-copy-out-right : tie.Need-element-copy-out-right Inv-loop μ-loop
+element-copy-out-right c = omega (arith, literals-fit (c .before .before .before .args .t1) (c .before .before .before .pre .0))
+
+element-copy-out-if1 : tie.Need-element-copy-out-if1 Inv-loop μ-loop
+element-copy-out-if1 c = omega (arith, literals-fit (c .before .before .before .before .before .args .t1) (c .before .before .before .before .before .pre .0))
+
+-- the sides of a record fit the label array
+small : (c : tie.After-if12 Inv-loop μ-loop) → (getD (c .before .before .before .before .before .before .args .t1 .lefts) (c .before .before .before .before .before .loop .i) 0 < 256) × (getD (c .before .before .before .before .before .before .args .t1 .rights) (c .before .before .before .before .before .loop .i) 0 < 256)
+small c = sides-small (c .before .before .before .before .before .before .args .t1) (c .before .before .before .before .before .before .pre .0) (c .before .before .before .before .before .loop .i) (c .before .before .before .before .loop-test .taken)
+
+cast-if1 : tie.Need-cast-if1 Inv-loop μ-loop
+cast-if1 c = omega (arith, small c .0)
+
+mul-if1 : tie.Need-mul-if1 Inv-loop μ-loop
+mul-if1 c = omega (arith, small c .0)
+
+array-read-if1 : tie.Need-array-read-if1 Inv-loop μ-loop
+array-read-if1 c = omega (arith, small c .0)
+
+cast-if1-2 : tie.Need-cast-if1-2 Inv-loop μ-loop
+cast-if1-2 c = omega (arith, small c .1)
+
+mul-if1-2 : tie.Need-mul-if1-2 Inv-loop μ-loop
+mul-if1-2 c = omega (arith, small c .1)
+
+array-read-if1-2 : tie.Need-array-read-if1-2 Inv-loop μ-loop
+array-read-if1-2 c = omega (arith, small c .1)
+
+element-copy-out-side-of : tie.Need-element-copy-out-side-of Inv-loop μ-loop
+element-copy-out-side-of c = omega (arith, literals-fit (c .before .before .before .before .before .before .before .args .t1) (c .before .before .before .before .before .before .before .pre .0))
+
+side-of-requires : tie.Need-side-of-requires Inv-loop μ-loop
+side-of-requires c κs = tt
+
+with-edge-requires : tie.Need-with-edge-requires Inv-loop μ-loop
+with-edge-requires c κs =
+    let start = c .before .before .before .before .before .before .before .before .before in
+    let more = c .before .before .before .before .before .before .before .loop-test .taken in
+    let i = c .before .before .before .before .before .before .before .before .loop .i in
+    let sides = sides-small (start .args .t1) (start .pre .0) i more in
+    (omega (arith, sides .0), omega (arith, sides .1), omega (arith, after-edges (start .args .t1) (start .pre .0) i _ (c .before .before .before .before .before .before .before .before .loop .inv .1 (start .pre .0) (start .pre .1)) more))
+
+add-i : tie.Need-add-i Inv-loop μ-loop
+add-i c = omega arith
+
+loop-less : tie.Need-loop-less Inv-loop μ-loop
+loop-less c = omega arith
+
+loop-again : tie.Need-loop-again Inv-loop μ-loop
+loop-again c =
+    let start = c .before .before .before .before .before .before .before in
+    let more = c .before .before .before .before .before .loop-test .taken in
+    let i = c .before .before .before .before .before .before .loop .i in
+    let inv = c .before .before .before .before .before .before .loop .inv .1 in (
+      omega arith,
+      λ from h. ⊎-elim
+          (λ w. subst (λ (s : Arrays). ShowsAfter (start .args .t1) from (i + 1) s) (sym (w .4))
+          (turn-taken (start .args .t1) from i more _ (inv from h) (w .0 .taken) (w .2 .result) (w .2 .ensures) (w .3 .result) (λ st shows. w .3 .ensures (termsOf (from .terms)) (literalsOf (from .literals)) st shows)))
+          (λ w. subst (λ (s : Arrays). ShowsAfter (start .args .t1) from (i + 1) s) (sym (w .1)) (turn-left (start .args .t1) from i more _ (inv from h) (w .0 .left)))
+          (c .if1 .came),
+    )
+
+returns : tie.Need-returns Inv-loop μ-loop
+returns c from h = after-all _ from _ _ (c .before .loop .inv .1 from h) (c .loop-test .left)
+
+pub basic-steps-spec : {M : Type 1} → statement M
+basic-steps-spec =
+    tie.close
+    (tie.spec
+    Inv-loop
+    μ-loop
+    loop-holds
+    mul-left
+    element-copy-out-left
+    mul-right
+    element-copy-out-right
+    element-copy-out-if1
+    cast-if1
+    mul-if1
+    array-read-if1
+    cast-if1-2
+    mul-if1-2
+    array-read-if1-2
+    element-copy-out-side-of
+    side-of-requires
+    with-edge-requires
+    add-i
+    loop-less
+    loop-again
+    returns)
