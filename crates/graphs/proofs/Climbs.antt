@@ -2,25 +2,22 @@
 use mathlib.Core.List.{List, [], _∷_, _++_, map, map-append, append-assoc, append-nil, List·Memᴰ, List·Memᴰ·not-nil, List·Memᴰ·cases-cons, List·Memᴰ·append-cases, Memᴰ·cast, Memᴰ·append-left, Memᴰ·append-right}
 use mathlib.Core.Logic.{inl, inr, ⊎-elim}
 use mathlib.Core.Path.{_≡_, refl, sym, ap, ap₂, subst, _∙_}
-use Prim.Native.Nat.{ℕ, _+_, _-_, _≤_, _<_}
+use Prim.Native.Nat.{ℕ, suc, _+_, _-_, _≤_, _<_}
 use native.Mathlib.Nat.{le-of-lt, lt-irrefl}
 use native.Mathlib.Numerals.{add-one}
 use native.Mathlib.Omega.{arith}
 use lib.Dec.{T}
-use lib.ListN.{length, getD, take, set, replicate, length-append, length-set, length-map, length-replicate}
-use lib.Seq.{length-take-le, take-suc-set}
+use lib.ListN.{length, getD, take, drop, set, length-append, length-set, length-map, length-drop, drop-of-length-le}
+use lib.Seq.{length-take-le, take-suc-set, take-set-le, drop-set-lt, drop-cons, getD-set-same, lt-length-set}
 use Rattle.closure.specs.Graph.{Graph, Path, joined, path, vertices}
 use Rattle.closure.specs.Walks.{Walk, stay, hop, Once, nothing, new}
 use Rattle.closure.specs.Forests.{Forest}
-use Rattle.graphs.specs.Layout.{lastFirst}
 use Rattle.graphs.specs.Rooting.{number, Toward, Leads, RootedBy}
-use Rattle.graphs.specs.Trails.{Joining, TrailOf, fromLast}
-use Rattle.graphs.specs.declared.paths.Trail.{Trail}
+use Rattle.graphs.specs.Trails.{Joining, TrailOf, Room, trail}
 use Rattle.closure.proofs.Walking.Joined.{joined-label, joined-sym, joined-trans}
 use Rattle.closure.proofs.Walking.Walks.{walk-joined, walk-append}
 use Rattle.closure.proofs.Walking.OnePath.{once-left, once-right, once-apart, once-append, vertices-append, turned, turned-hop, one-path}
 use Rattle.closure.proofs.Walking.Count.{once-length}
-use Rattle.graphs.proofs.Numbered.{lastFirst-length, lastFirst-more, lastFirst-less}
 
 -- ---- lists
 
@@ -28,40 +25,43 @@ use Rattle.graphs.proofs.Numbered.{lastFirst-length, lastFirst-more, la
 pub take-more : (l : List ℕ) (k x : ℕ) → k < length l → take (k + 1) (set l k x) ≡ take k l ++ (x ∷ [])
 take-more l k x h = rw (add-one, take-suc-set)
 
--- the last of one list goes to the end of the other
-pub moved : (l m : List ℕ) (k i : ℕ) → k < length l → 0 < i → take (k + 1) (set l k (getD m (i - 1) 0)) ++ fromLast (i - 1) m ≡ take k l ++ fromLast i m
-moved l m k i h p =
-    ap (λ (t : List ℕ). t ++ fromLast (i - 1) m) (take-more l k (getD m (i - 1) 0) h) ∙
-    append-assoc (take k l) (getD m (i - 1) 0 ∷ []) (fromLast (i - 1) m) ∙
-    ap (λ (t : List ℕ). take k l ++ t) (sym (lastFirst-less 0 i m p))
+-- one number more before the last ones
+pub drop-more : (l : List ℕ) (k x : ℕ) → 0 < k → k ≤ length l → drop (k - 1) (set l (k - 1) x) ≡ x ∷ drop k l
+drop-more l k x p h =
+    let n : suc (k - 1) ≡ k = omega arith in
+    drop-cons (set l (k - 1) x) (k - 1) 0 (lt-length-set l (k - 1) x (omega arith)) ∙
+    ap₂ _∷_ (getD-set-same l (k - 1) x 0 (omega arith)) (drop-set-lt (suc (k - 1)) l (k - 1) x (omega arith) ∙ ap (λ (i : ℕ). drop i l) n)
 
--- ---- a trail, and back along another
+-- ---- a list closed up
 
--- what holds when i hops of the other trail are left
-pub record Returning (near far r : Trail) (k i : ℕ) : Type 0 where
-  pub long : (length (r .stops) ≡ 511) × (length (r .edges) ≡ 511)
-  pub sum : k + i ≡ near .hops + far .hops
-  pub stops : take (k + 1) (r .stops) ++ fromLast i (far .stops) ≡ take (near .hops + 1) (near .stops) ++ fromLast (far .hops) (far .stops)
-  pub edges : take k (r .edges) ++ fromLast i (far .edges) ≡ take (near .hops) (near .edges) ++ fromLast (far .hops) (far .edges)
+-- what holds of the list m, which was l, when the numbers from place i on are still to be put behind the first k
+pub record Closing (l : List ℕ) (to from : ℕ) (m : List ℕ) (k i : ℕ) : Type 0 where
+  pub long : length m ≡ 511
+  pub order : k ≤ i
+  pub short : i ≤ 511
+  pub gap : k + from ≡ i + to
+  pub whole : take k m ++ drop i m ≡ take to l ++ drop from l
 
--- one of them
-pub returning-more : {near far r : Trail} {k i : ℕ} → near .hops + far .hops ≤ 510 → 0 < i → Returning near far r k i → Returning near far (record { stops = set (r .stops) (k + 1) (getD (far .stops) (i - 1) 0); edges = set (r .edges) k (getD (far .edges) (i - 1) 0); hops = r .hops }) (k + 1) (i - 1)
-returning-more {near} {far} {r} {k} {i} b h w =
-    record {
-      long = (length-set (r .stops) (k + 1) (getD (far .stops) (i - 1) 0) ∙ w .long .0, length-set (r .edges) k (getD (far .edges) (i - 1) 0) ∙ w .long .1);
-      sum = omega (arith, w .sum);
-      stops = moved (r .stops) (far .stops) (k + 1) i (omega (arith, w .sum, w .long .0)) h ∙ w .stops;
-      edges = moved (r .edges) (far .edges) k i (omega (arith, w .sum, w .long .1)) h ∙ w .edges;
-    }
+module _ {l : List ℕ} {to from : ℕ} {m : List ℕ} {k i : ℕ} (w : Closing l to from m k i) where
+  -- one of them
+  pub closing-more : i < 511 → Closing l to from (set m k (getD m i 0)) (k + 1) (i + 1)
+  closing-more h =
+      record {
+        long = length-set m k (getD m i 0) ∙ w .long;
+        order = omega (arith, w .order);
+        short = omega arith;
+        gap = omega (arith, w .gap);
+        whole = ap₂ (λ (x y : List ℕ). x ++ y) (take-more m k (getD m i 0) (omega (arith, w .long, w .order))) (drop-set-lt (i + 1) m k (getD m i 0) (omega (arith, w .order))) ∙
+            append-assoc (take k m) (getD m i 0 ∷ []) (drop (i + 1) m) ∙
+            ap (λ (x : List ℕ). take k m ++ x) (rw add-one (sym (drop-cons m i 0 (omega (arith, w .long))))) ∙
+            w .whole;
+      }
 
--- all of them
-pub returning-all : {near far r : Trail} {k i : ℕ} → i ≡ 0 → Returning near far r k i → (k ≡ near .hops + far .hops) × (take (k + 1) (r .stops) ≡ take (near .hops + 1) (near .stops) ++ fromLast (far .hops) (far .stops)) × (take k (r .edges) ≡ take (near .hops) (near .edges) ++ fromLast (far .hops) (far .edges))
-unfolding lastFirst
-returning-all {near} {far} {r} {k} {i} z w = (
-  omega (arith, w .sum),
-  sym (append-nil (take (k + 1) (r .stops))) ∙ ap (λ (n : ℕ). take (k + 1) (r .stops) ++ fromLast n (far .stops)) (sym z) ∙ w .stops,
-  sym (append-nil (take k (r .edges))) ∙ ap (λ (n : ℕ). take k (r .edges) ++ fromLast n (far .edges)) (sym z) ∙ w .edges,
-)
+  -- all of them
+  pub closing-all : from ≤ 511 → 511 ≤ i → take (to + (511 - from)) m ≡ take to l ++ drop from l
+  closing-all f h =
+      let n : to + (511 - from) ≡ k = omega (arith, w .gap, w .short) in
+      ap (λ (x : ℕ). take x m) n ∙ sym (append-nil (take k m)) ∙ ap (λ (x : List ℕ). take k m ++ x) (sym (drop-of-length-le m {i = i} (omega (arith, w .long)))) ∙ w .whole
 
 -- ---- where the climbs have been
 
@@ -202,29 +202,38 @@ walked-path G f {F} {FE} {R} {RE} {u} {v} {a} {b} w q o =
 
 -- ---- the arrays
 
--- what holds of the code's arrays while the climbs have not met
-pub record Climbing (toward by rank : List ℕ) (u v : ℕ) (stops edges back-stops back-edges : List ℕ) (a b up down : ℕ) : Type 0 where
-  pub long : (length stops ≡ 511) × (length edges ≡ 511) × (length back-stops ≡ 511) × (length back-edges ≡ 511)
-  pub short : up ≤ 511
-  pub apart : Apart rank (take up stops) (fromLast down back-stops) a b
-  pub walked : (G : Graph) → Joining toward by rank u v G → Walked G (take up stops) (take up edges) (fromLast down back-stops) (fromLast down back-edges) u v a b
+-- what holds of the code's arrays while the climbs have not met: where the first was stands from their first place on, where the second was before their last
+pub record Climbing (toward by rank : List ℕ) (u v : ℕ) (stops edges : List ℕ) (a b up top : ℕ) : Type 0 where
+  pub long : Room stops edges
+  pub short : (up ≤ 511) × (top ≤ 511)
+  pub apart : Apart rank (take up stops) (drop top stops) a b
+  pub walked : (G : Graph) → Joining toward by rank u v G → Walked G (take up stops) (take up edges) (drop top stops) (drop top edges) u v a b
 
 -- at the start
-pub climbing-none : (toward by rank : List ℕ) (u v : ℕ) → u < 511 → v < 511 → Climbing toward by rank u v (replicate 511 0) (replicate 511 0) (replicate 511 0) (replicate 511 0) u v 0 0
-unfolding lastFirst
-climbing-none toward by rank u v hu hv =
-    let l = length-replicate {A = ℕ} 511 0 in
+pub climbing-none : (toward by rank : List ℕ) (u v : ℕ) (stops edges : List ℕ) → Room stops edges → u < 511 → v < 511 → Climbing toward by rank u v stops edges u v 0 511
+climbing-none toward by rank u v stops edges l hu hv =
+    let s : drop 511 stops ≡ [] = drop-of-length-le stops {i = 511} (omega (arith, l .0)) in
+    let e : drop 511 edges ≡ [] = drop-of-length-le edges {i = 511} (omega (arith, l .1)) in
     record {
-      long = (l, l, l, l);
-      short = omega arith;
-      apart = record { a-within = hu; b-within = hv; once = nothing; behind = λ x m. absurd (List·Memᴰ·not-nil m) };
-      walked = λ G j. record { front = []; rear = []; there = stay refl; onward = stay refl; front-stops = refl; front-edges = refl; rear-stops = refl; rear-edges = refl };
+      long = l;
+      short = (omega arith, omega arith);
+      apart = record { a-within = hu; b-within = hv; once = subst Once (sym s) nothing; behind = λ x m. absurd (List·Memᴰ·not-nil (subst (List·Memᴰ x) s m)) };
+      walked = λ G j. record { front = []; rear = []; there = stay refl; onward = stay refl; front-stops = refl; front-edges = refl; rear-stops = s; rear-edges = e };
     }
 
-module _ {toward by rank : List ℕ} {u v : ℕ} {stops edges back-stops back-edges : List ℕ} {a b up down : ℕ} (c : Climbing toward by rank u v stops edges back-stops back-edges a b up down) where
+module _ {toward by rank : List ℕ} {u v : ℕ} {stops edges : List ℕ} {a b up top : ℕ} (c : Climbing toward by rank u v stops edges a b up top) where
+  -- the numbers that stand in the arrays
+  climbing-counts : (length (take up stops) ≡ up) × (length (take up edges) ≡ up) × (length (drop top stops) ≡ 511 - top) × (length (drop top edges) ≡ 511 - top)
+  climbing-counts = (
+    length-take-le up stops (omega (arith, c .short, c .long .0)),
+    length-take-le up edges (omega (arith, c .short, c .long .1)),
+    length-drop top stops ∙ ap (λ (n : ℕ). n - top) (c .long .0),
+    length-drop top edges ∙ ap (λ (n : ℕ). n - top) (c .long .1),
+  )
+
   -- there is room for every stop
-  pub climbing-room : up + down ≤ 510
-  climbing-room = omega (arith, apart-fewer rank (take up stops) (fromLast down back-stops) (c .apart), length-take-le up stops (omega (arith, c .short, c .long .0)), lastFirst-length 0 down back-stops)
+  pub climbing-room : up < top
+  climbing-room = omega (arith, apart-fewer rank (take up stops) (drop top stops) (c .apart), climbing-counts, c .short)
 
   -- the two stand on joined vertices
   climbing-joined : (G : Graph) → Joining toward by rank u v G → T (joined G a b)
@@ -241,50 +250,53 @@ module _ {toward by rank : List ℕ} {u v : ℕ} {stops edges back-stops back-ed
   climbs-right G j d h = no-root G toward by rank (j .rooted) (c .apart .b-within) (c .apart .a-within) (joined-sym G a b (climbing-joined G j)) (λ q. d (sym q)) h
 
   -- the first goes on
-  pub climbing-left : (H : Graph) → Joining toward by rank u v H → (a ≡ b → ⊥) → getD rank b 0 ≤ getD rank a 0 → Climbing toward by rank u v (set stops up a) (set edges up (getD by a 0)) back-stops back-edges (getD toward a 0) b (up + 1) down
+  pub climbing-left : (H : Graph) → Joining toward by rank u v H → (a ≡ b → ⊥) → getD rank b 0 ≤ getD rank a 0 → Climbing toward by rank u v (set stops up a) (set edges up (getD by a 0)) (getD toward a 0) b (up + 1) top
   climbing-left H k d h =
       let t = climbs-left H k d h in
       let room = climbing-room in
-      let s : take (up + 1) (set stops up a) ≡ take up stops ++ (a ∷ []) = take-more stops up a (omega (arith, c .long .0)) in
-      let e : take (up + 1) (set edges up (getD by a 0)) ≡ take up edges ++ (getD by a 0 ∷ []) = take-more edges up (getD by a 0) (omega (arith, c .long .1)) in
+      let s : take (up + 1) (set stops up a) ≡ take up stops ++ (a ∷ []) = take-more stops up a (omega (arith, c .long .0, c .short)) in
+      let e : take (up + 1) (set edges up (getD by a 0)) ≡ take up edges ++ (getD by a 0 ∷ []) = take-more edges up (getD by a 0) (omega (arith, c .long .1, c .short)) in
+      let rs : drop top (set stops up a) ≡ drop top stops = drop-set-lt top stops up a room in
+      let re : drop top (set edges up (getD by a 0)) ≡ drop top edges = drop-set-lt top edges up (getD by a 0) room in
       record {
-        long = (length-set stops up a ∙ c .long .0, length-set edges up (getD by a 0) ∙ c .long .1, c .long .2, c .long .3);
-        short = omega arith;
-        apart = subst (λ (l : List ℕ). Apart rank l (fromLast down back-stops) (getD toward a 0) b) (sym s) (apart-left rank (take up stops) (fromLast down back-stops) (getD toward a 0) (c .apart) d (t .within) h (t .lower));
-        walked = λ G j.
-            subst (λ (l : List ℕ). Walked G l (take (up + 1) (set edges up (getD by a 0))) (fromLast down back-stops) (fromLast down back-edges) u v (getD toward a 0) b) (sym s)
-            (subst (λ (l : List ℕ). Walked G (take up stops ++ (a ∷ [])) l (fromLast down back-stops) (fromLast down back-edges) u v (getD toward a 0) b) (sym e)
-            (walked-left (c .walked G j) (climbs-left G j d h)));
+        long = (length-set stops up a ∙ c .long .0, length-set edges up (getD by a 0) ∙ c .long .1);
+        short = (omega (arith, c .short), c .short .1);
+        apart = rw (s, rs) (apart-left rank (take up stops) (drop top stops) (getD toward a 0) (c .apart) d (t .within) h (t .lower));
+        walked = λ G j. rw (s, e, rs, re) (walked-left (c .walked G j) (climbs-left G j d h));
       }
 
   -- the second goes on
-  pub climbing-right : (H : Graph) → Joining toward by rank u v H → (a ≡ b → ⊥) → getD rank a 0 ≤ getD rank b 0 → Climbing toward by rank u v stops edges (set back-stops down b) (set back-edges down (getD by b 0)) a (getD toward b 0) up (down + 1)
+  pub climbing-right : (H : Graph) → Joining toward by rank u v H → (a ≡ b → ⊥) → getD rank a 0 ≤ getD rank b 0 → Climbing toward by rank u v (set stops (top - 1) b) (set edges (top - 1) (getD by b 0)) a (getD toward b 0) up (top - 1)
   climbing-right H k d h =
       let t = climbs-right H k d h in
       let room = climbing-room in
-      let s : fromLast (down + 1) (set back-stops down b) ≡ b ∷ fromLast down back-stops = lastFirst-more 0 down back-stops b (omega (arith, c .long .2)) in
-      let e : fromLast (down + 1) (set back-edges down (getD by b 0)) ≡ getD by b 0 ∷ fromLast down back-edges = lastFirst-more 0 down back-edges (getD by b 0) (omega (arith, c .long .3)) in
+      let s : take up (set stops (top - 1) b) ≡ take up stops = take-set-le up stops (top - 1) b (omega arith) in
+      let e : take up (set edges (top - 1) (getD by b 0)) ≡ take up edges = take-set-le up edges (top - 1) (getD by b 0) (omega arith) in
+      let rs : drop (top - 1) (set stops (top - 1) b) ≡ b ∷ drop top stops = drop-more stops top b (omega arith) (omega (arith, c .long .0, c .short)) in
+      let re : drop (top - 1) (set edges (top - 1) (getD by b 0)) ≡ getD by b 0 ∷ drop top edges = drop-more edges top (getD by b 0) (omega arith) (omega (arith, c .long .1, c .short)) in
       record {
-        long = (c .long .0, c .long .1, length-set back-stops down b ∙ c .long .2, length-set back-edges down (getD by b 0) ∙ c .long .3);
-        short = c .short;
-        apart = subst (λ (l : List ℕ). Apart rank (take up stops) l a (getD toward b 0)) (sym s) (apart-right rank (take up stops) (fromLast down back-stops) (getD toward b 0) (c .apart) d (t .within) h (t .lower));
-        walked = λ G j.
-            subst (λ (l : List ℕ). Walked G (take up stops) (take up edges) l (fromLast (down + 1) (set back-edges down (getD by b 0))) u v a (getD toward b 0)) (sym s)
-            (subst (λ (l : List ℕ). Walked G (take up stops) (take up edges) (b ∷ fromLast down back-stops) l u v a (getD toward b 0)) (sym e)
-            (walked-right (c .walked G j) (climbs-right G j d h)));
+        long = (length-set stops (top - 1) b ∙ c .long .0, length-set edges (top - 1) (getD by b 0) ∙ c .long .1);
+        short = (c .short .0, omega (arith, c .short));
+        apart = rw (s, rs) (apart-right rank (take up stops) (drop top stops) (getD toward b 0) (c .apart) d (t .within) h (t .lower));
+        walked = λ G j. rw (s, e, rs, re) (walked-right (c .walked G j) (climbs-right G j d h));
       }
 
   -- they have met: what both have left, with where they stand, is the path
-  pub climbing-met : a ≡ b → (r : Trail) → r .hops ≡ up + down → take (r .hops + 1) (r .stops) ≡ take (up + 1) (set stops up a) ++ fromLast down back-stops → take (r .hops) (r .edges) ≡ take up edges ++ fromLast down back-edges → (G : Graph) → Joining toward by rank u v G → TrailOf G u v r
-  climbing-met q r n s e G j =
+  pub climbing-met : a ≡ b → (s e : List ℕ) → take (up + 1 + (511 - top)) s ≡ take (up + 1) (set stops up a) ++ drop top (set stops up a) → take (up + (511 - top)) e ≡ take up edges ++ drop top edges → (G : Graph) → Joining toward by rank u v G → TrailOf G u v (trail s e (up + (511 - top)))
+  climbing-met q s e hs he G j =
       let F = take up stops in
-      let R = fromLast down back-stops in
+      let R = drop top stops in
       let room = climbing-room in
+      let n : up + (511 - top) + 1 ≡ up + 1 + (511 - top) = omega arith in
       let w = walked-path G (j .forest) (c .walked G j) q (once-insert F R a (λ m. c .apart .behind a m .1 refl) (c .apart .once)) in
-      let all : take (r .hops + 1) (r .stops) ≡ F ++ (a ∷ R) = s ∙ ap (λ (l : List ℕ). l ++ R) (take-more stops up a (omega (arith, c .long .0))) ∙ append-assoc F (a ∷ []) R in
+      let all : take (up + (511 - top) + 1) s ≡ F ++ (a ∷ R) =
+      ap (λ (x : ℕ). take x s) n ∙
+      hs ∙
+      ap₂ (λ (x y : List ℕ). x ++ y) (take-more stops up a (omega (arith, c .long .0, c .short))) (drop-set-lt top stops up a room) ∙
+      append-assoc F (a ∷ []) R in
       record {
-        within = omega arith;
-        hops = omega (arith, ap length (w .1), length-map (path G u v) number, length-append (take up edges) (fromLast down back-edges), length-take-le up edges (omega (arith, c .short, c .long .1)), lastFirst-length 0 down back-edges);
+        within = omega (arith, c .short);
+        hops = omega (arith, ap length (w .1), length-map (path G u v) number, length-append (take up edges) (drop top edges), climbing-counts);
         stops = all ∙ sym (w .0);
-        edges = e ∙ sym (w .1);
+        edges = he ∙ sym (w .1);
       }

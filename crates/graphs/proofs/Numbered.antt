@@ -2,7 +2,7 @@
 use mathlib.Core.List.{List, _∷_, map}
 use mathlib.Core.Logic.{_⊎_, inl, inr}
 use mathlib.Core.Path.{_≡_, refl, sym, ap, ap₂, subst, _∙_}
-use Prim.Native.Nat.{ℕ, zero, suc, _+_, _-_, _≤_, _<_}
+use Prim.Native.Nat.{ℕ, zero, suc, _+_, _≤_, _<_}
 use native.Mathlib.Nat.{lt-irrefl, not-suc-le-zero, eq-or-lt-of-le}
 use native.Mathlib.Numerals.{add-one}
 use native.Mathlib.Omega.{arith}
@@ -37,12 +37,6 @@ module _ {A : Type 0} (d : A) where
   pub lastFirst-more : (n : ℕ) (l : List A) (x : A) → n < length l → lastFirst (n + 1) (set l n x) d ≡ x ∷ lastFirst n l d
   unfolding lastFirst
   lastFirst-more n l x h = rw (add-one, getD-set-same l n x d h, lastFirst-kept n l n x (omega arith))
-
-  -- the last of them, and the others
-  pub lastFirst-less : (i : ℕ) (l : List A) → 0 < i → lastFirst i l d ≡ getD l (i - 1) d ∷ lastFirst (i - 1) l d
-  unfolding lastFirst
-  lastFirst-less zero l h = absurd (not-suc-le-zero h)
-  lastFirst-less (suc i) l h = let q : i ≡ suc i - 1 = omega arith in ap (λ (n : ℕ). getD l n d ∷ lastFirst n l d) q
 
 -- ---- edges by number
 

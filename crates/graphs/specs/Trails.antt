@@ -6,7 +6,6 @@ use lib.Dec.{T}
 use lib.ListN.{length, take}
 use Rattle.closure.specs.Graph.{Graph, joined, path, vertices}
 use Rattle.closure.specs.Forests.{Forest}
-use Rattle.graphs.specs.Layout.{lastFirst}
 use Rattle.graphs.specs.Rooting.{number, RootedBy}
 use Rattle.graphs.specs.declared.paths.Trail.{Trail}
 
@@ -23,6 +22,10 @@ pub record TrailOf (G : Graph) (u v : ℕ) (r : Trail) : Type 0 where
   pub stops : take (r .hops + 1) (r .stops) ≡ vertices u (path G u v)
   pub edges : take (r .hops) (r .edges) ≡ map number (path G u v)
 
--- the first n numbers of a list, the last of them first
-abbrev pub fromLast : ℕ → List ℕ → List ℕ
-fromLast n l = lastFirst n l 0
+-- arrays in which every path has room
+abbrev pub Room : List ℕ → List ℕ → Type 0
+Room stops edges = (length stops ≡ 511) × (length edges ≡ 511)
+
+-- two arrays and a count, read as a trail
+abbrev pub trail : List ℕ → List ℕ → ℕ → Trail
+trail s e n = record { stops = s; edges = e; hops = n }

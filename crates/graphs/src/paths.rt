@@ -2,10 +2,10 @@
 
 ghost use mathlib.Core.Path.{_≡_};
 ghost use mathlib.Core.List.{_++_};
-ghost use Prim.Native.Nat.{_+_, _≤_, _<_};
-ghost use lib.ListN.{take};
+ghost use Prim.Native.Nat.{_+_, _-_, _≤_, _<_};
+ghost use lib.ListN.{length, take, drop};
 ghost use Rattle.closure.specs.Graph.{Graph};
-ghost use Rattle.graphs.specs.Trails.{Joining, TrailOf, fromLast};
+ghost use Rattle.graphs.specs.Trails.{Joining, TrailOf, Room, trail};
 
 // The vertices that the path stands on, and the edges between them.
 pub struct Trail {
@@ -14,38 +14,39 @@ pub struct Trail {
     pub hops: usize,
 }
 
-impl Trail {
-    // This trail, and from its end the other's stops and edges, the last of them first.
-    fn and_back(mut self, other: Trail) -> Trail
-        requires { ⌜ self .hops + other .hops ≤ 510 ⌝ }
-        ensures { λ r. ⌜ (r .hops ≡ self .hops + other .hops) × (take (r .hops + 1) (r .stops) ≡ take (self .hops + 1) (self .stops) ++ fromLast (other .hops) (other .stops)) × (take (r .hops) (r .edges) ≡ take (self .hops) (self .edges) ++ fromLast (other .hops) (other .edges)) ⌝ }
-    {
-        let mut k = self.hops;
-        let mut i = other.hops;
-        while 0 < i {
-            i -= 1;
-            self.edges[k] = other.edges[i];
-            k += 1;
-            self.stops[k] = other.stops[i];
-        }
-        self.hops = k;
-        self
+// What stands from one place on is put behind what stands before another.
+fn close_up(list: &mut [u16; 511], to: usize, from: usize)
+    requires { ⌜ (length (now list) ≡ 511) × (to ≤ from) × (from ≤ 511) ⌝ }
+    ensures { λ _. ⌜ (length (now (list .exit)) ≡ 511) × (take (to + (511 - from)) (now (list .exit)) ≡ take to (now (list .entry)) ++ drop from (now (list .entry))) ⌝ }
+{
+    let mut k = to;
+    let mut i = from;
+    while i < 511 {
+        list[k] = list[i];
+        k += 1;
+        i += 1;
     }
 }
 
-// From u and from v toward the root, whichever is farther, until they meet: where u was left comes first, and where v was left comes last.
-pub fn path(toward: &[u16; 511], by: &[u16; 511], rank: &[u16; 511], u: u16, v: u16) -> Trail
+// From u and from v toward the root, whichever is farther, until they meet. What u's side left fills the arrays from the front, what v's side left
+// fills them from the back, which is closed up in the end: so a path costs its hops alone, and the arrays may hold anything before.
+pub fn lay_path(
+    toward: &[u16; 511],
+    by: &[u16; 511],
+    rank: &[u16; 511],
+    u: u16,
+    v: u16,
+    stops: &mut [u16; 511],
+    edges: &mut [u16; 511],
+) -> usize
     requires { ⌜ (u < 511) × (v < 511) × ((G : Graph) × Joining (now toward) (now by) (now rank) u v G) ⌝ }
-    ensures { λ r. ⌜ ((G : Graph) → Joining (now (toward .entry)) (now (by .entry)) (now (rank .entry)) u v G → TrailOf G u v r) ⌝ }
+    requires { ⌜ Room (now stops) (now edges) ⌝ }
+    ensures { λ r. ⌜ Room (now (stops .exit)) (now (edges .exit)) × ((G : Graph) → Joining (now (toward .entry)) (now (by .entry)) (now (rank .entry)) u v G → TrailOf G u v (trail (now (stops .exit)) (now (edges .exit)) r)) ⌝ }
 {
-    let mut stops = [0u16; 511];
-    let mut edges = [0u16; 511];
-    let mut back_stops = [0u16; 511];
-    let mut back_edges = [0u16; 511];
     let mut a = u;
     let mut b = v;
     let mut up = 0;
-    let mut down = 0;
+    let mut top = 511;
     while a != b {
         if rank[b as usize] <= rank[a as usize] {
             stops[up] = a;
@@ -53,21 +54,25 @@ pub fn path(toward: &[u16; 511], by: &[u16; 511], rank: &[u16; 511], u: u16, v: 
             a = toward[a as usize];
             up += 1;
         } else {
-            back_stops[down] = b;
-            back_edges[down] = by[b as usize];
+            top -= 1;
+            stops[top] = b;
+            edges[top] = by[b as usize];
             b = toward[b as usize];
-            down += 1;
         }
     }
     stops[up] = a;
-    let near = Trail {
-        stops,
-        edges,
-        hops: up,
-    };
-    near.and_back(Trail {
-        stops: back_stops,
-        edges: back_edges,
-        hops: down,
-    })
+    close_up(stops, up + 1, top);
+    close_up(edges, up, top);
+    up + (511 - top)
+}
+
+// The same, handed out as a value.
+pub fn path(toward: &[u16; 511], by: &[u16; 511], rank: &[u16; 511], u: u16, v: u16) -> Trail
+    requires { ⌜ (u < 511) × (v < 511) × ((G : Graph) × Joining (now toward) (now by) (now rank) u v G) ⌝ }
+    ensures { λ r. ⌜ ((G : Graph) → Joining (now (toward .entry)) (now (by .entry)) (now (rank .entry)) u v G → TrailOf G u v r) ⌝ }
+{
+    let mut stops = [0u16; 511];
+    let mut edges = [0u16; 511];
+    let hops = lay_path(toward, by, rank, u, v, &mut stops, &mut edges);
+    Trail { stops, edges, hops }
 }
