@@ -208,7 +208,7 @@ module _ {M : Type 1} (𝓤 : URA M) (H : Heap 𝓤) (A : Atoms 𝓤) (W : Given
 module _ {M : Type 1} (𝓤 : URA M) (H : Heap 𝓤) (A : Atoms 𝓤) (W : Given 𝓤 H A) (mem : Memory → SProp 𝓤) (run : Routine → Fun 𝓤) (𝓣 : Tables 𝓤 H) (known : Triple 𝓤 (𝓣 .C #walk) (Walk 𝓤 H A W mem run)) where
   all-walks : Walks 𝓤 H A lend.ended stayed (WpFn 𝓤 H (𝓣 .C) (𝓣 .Λ) code.function) (lend.clauses 𝓤 H A mem run)
   all-walks = walked 𝓤 H A lend.ended stayed (lend.clauses 𝓤 H A mem run) (WpFn 𝓤 H (𝓣 .C) (𝓣 .Λ) code.function) (λ κs. (LL.vals G.the-type G′.the-laws, tt)) (λ κs. (LL.tells G.the-type G′.the-laws, tt))
-      (λ κs qs bounds a ghost are. needs 𝓤 _ _ (λ few. walks 𝓤 H A W mem run (a .0) (are .0) few 𝓣 known))
+      (λ κs qs bounds a ghost are. needs 𝓤 _ _ (λ few. walks 𝓤 H A W mem run (a .0) (are .0) (omega (arith, few)) 𝓣 known))
 
   all-meets : Meets 𝓤 H A lend.signature (WpFn 𝓤 H (𝓣 .C) (𝓣 .Λ) code.function) (lend.spec 𝓤 H A mem run)
   all-meets = walk-meets 𝓤 H A lend.ended stayed W (goes-none 𝓤 H A W 0 (λ _. G.the-row) yes (λ κs x f. refl), tt) (lend.clauses 𝓤 H A mem run) (WpFn 𝓤 H (𝓣 .C) (𝓣 .Λ) code.function) (WpFn-mono 𝓤 H (W .laws) 𝓣 code.function) all-walks
