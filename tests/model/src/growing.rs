@@ -14,6 +14,7 @@ pub struct Growth {
     pub shared: usize,
     pub named: usize,
     pub equalities: usize,
+    pub relays: usize,
     pub functions: usize,
     pub noise: usize,
 }
@@ -34,7 +35,7 @@ impl<'a> Grower<'a> {
         let functions = (0..growth.functions as u16)
             .map(|symbol| {
                 let arity = random.pick(&[1, 1, 1, 2, 2, 2, 2, 3, 4]);
-                (symbol, arity, random.pick(&[BOTH, BOTH, BOTH, BOTH, A, A, B]))
+                (symbol, arity, random.pick(&[BOTH, BOTH, BOTH, A, A, B]))
             })
             .collect();
         Grower { random, growth, draft: Draft::default(), halves: Vec::new(), class: Vec::new(), functions }
@@ -94,12 +95,42 @@ impl<'a> Grower<'a> {
         self.join(side, left, right);
     }
 
-    /// A term of this half, and one of that half in the same class: another one, where there is one.
+    /// A term of this half, and one of that half in the same class: another one, where there is one. Often neither may stand in more halves.
     fn equal_pair(&mut self, one: u8, other: u8) -> Option<(usize, usize)> {
-        let x = self.some(one, |_, _| true)?;
-        let another = self.some(other, |g, t| t != x && g.class[t] == g.class[x]);
+        let strict = self.random.percent(60);
+        let fits = |g: &Self, t: usize, half: u8| !strict || g.halves[t] == half;
+        let x = self.some(one, |g, t| fits(g, t, one)).or_else(|| self.some(one, |_, _| true))?;
+        let another = self.some(other, |g, t| t != x && g.class[t] == g.class[x] && fits(g, t, other));
+        let another = another.or_else(|| self.some(other, |g, t| t != x && g.class[t] == g.class[x]));
         let same = if self.halves[x] & other != 0 { Some(x) } else { None };
         Some((x, another.or(same)?))
+    }
+
+    /// Two terms of both halves that are equal by then.
+    fn shared_pair(&mut self) -> Option<(usize, usize)> {
+        let x = self.some(BOTH, |g, t| g.halves[t] == BOTH)?;
+        Some((x, self.some(BOTH, |g, t| t != x && g.halves[t] == BOTH && g.class[t] == g.class[x])?))
+    }
+
+    /// A function of one half over shared terms that are equal by then, and shared names for both: one half draws a conclusion for the other.
+    fn relay(&mut self) -> Option<()> {
+        let (symbol, arity, side) = self.random.pick(&self.functions);
+        if side == BOTH || self.halves.len() + 4 > self.growth.terms {
+            return None;
+        }
+        let mut rows = [Vec::new(), Vec::new()];
+        for _ in 0..arity {
+            let (x, y) = self.shared_pair()?;
+            rows[0].push(x);
+            rows[1].push(y);
+        }
+        let ends = [self.term(symbol, &rows[0], side), self.term(symbol, &rows[1], side)];
+        self.merge(ends[0], ends[1]);
+        for end in ends {
+            let name = self.constant(BOTH);
+            self.join(side, name, end);
+        }
+        Some(())
     }
 
     /// One function over equal arguments, once in this half and once in that.
@@ -138,6 +169,16 @@ impl<'a> Grower<'a> {
         }
     }
 
+    /// A shared function over shared terms, in no literal: it may equal a middle term, and yet is no vertex.
+    fn idle(&mut self) -> Option<()> {
+        let (symbol, arity, half) = self.random.pick(&self.functions);
+        let row: Vec<usize> = (0..arity).map(|_| self.some(BOTH, |g, t| g.halves[t] == BOTH)).collect::<Option<_>>()?;
+        if half == BOTH && !self.full() {
+            self.term(symbol, &row, half);
+        }
+        Some(())
+    }
+
     /// Grows until there is no room for a congruence with two names, then fills up with constants.
     fn grow(&mut self) {
         self.equality();
@@ -147,9 +188,14 @@ impl<'a> Grower<'a> {
             }
             if self.random.percent(self.growth.equalities) {
                 self.equality();
+            } else if self.random.percent(self.growth.relays) {
+                self.relay();
             } else {
                 self.congruence();
             }
+        }
+        for _ in 0..self.random.below(4) {
+            self.idle();
         }
         while !self.full() {
             let (side, half) = (self.random.pick(&[A, B]), self.random.pick(&[A, B]));
@@ -160,18 +206,18 @@ impl<'a> Grower<'a> {
         }
     }
 
-    /// Disequalities, most between terms that are equal by then.
+    /// A disequality, mostly between terms that are equal by then.
     fn disequality(&mut self) {
         let side = self.random.pick(&[A, B]);
-        let mut equal = self.equal_pair(side, side);
+        let far = self.random.percent(60);
+        let mut found = None;
         for _ in 0..6 {
-            if equal.map_or(true, |(x, y)| x == y) {
-                equal = self.equal_pair(side, side);
-            }
+            let next = if far { self.shared_pair() } else { self.equal_pair(side, side) };
+            found = next.filter(|(x, y)| x != y).or(found);
         }
         let any = self.random.below(self.halves.len());
-        let (x, y) = equal.unwrap_or((any, any));
-        let y = if self.random.percent(20) { any } else { y };
+        let (x, y) = found.or_else(|| self.equal_pair(side, side)).unwrap_or((any, any));
+        let y = if self.random.percent(15) { any } else { y };
         self.draft.different(side, x, y);
     }
 

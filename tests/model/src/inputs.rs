@@ -27,8 +27,9 @@ pub fn grown_to(terms: usize, random: &mut Random) -> Draft {
         fresh: random.pick(&[10, 25, 40, 70]),
         shared: random.pick(&[20, 40, 60, 90]),
         named: random.pick(&[20, 50, 80]),
-        equalities: random.pick(&[15, 30, 50, 70]),
-        functions: random.between(1, 2 + terms / 8),
+        equalities: random.pick(&[10, 20, 40, 70]),
+        relays: random.pick(&[0, 30, 70]),
+        functions: random.between(1, 3 + terms / 8),
         noise: random.pick(&[0, 0, 0, 0, 0, 1, 2, terms / 2]),
     };
     grown(&growth, random)
@@ -65,13 +66,13 @@ fn many_literals(random: &mut Random) -> Draft {
 fn sound(random: &mut Random) -> Draft {
     match random.below(1000) {
         0..=4 => shaped(random),
-        5..=10 => grown_to(256, random),
-        11..=14 => many_literals(random),
-        15..=50 => grown_to(64, random),
-        51..=150 => grown_to(random.between(20, 48), random),
-        151..=160 => grown_to(random.between(65, 255), random),
-        161..=600 => grown_to(random.between(6, 20), random),
-        601..=800 => grown_to(random.between(2, 10), random),
+        5..=14 => grown_to(256, random),
+        15..=18 => many_literals(random),
+        19..=80 => grown_to(64, random),
+        81..=90 => grown_to(random.between(65, 255), random),
+        91..=400 => grown_to(random.between(20, 48), random),
+        401..=750 => grown_to(random.between(6, 20), random),
+        751..=850 => grown_to(random.between(1, 10), random),
         _ => soup(random.between(0, 12), random.between(1, 6), random.between(0, 16), random),
     }
 }

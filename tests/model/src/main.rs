@@ -1,6 +1,7 @@
 //! An independent model of the engine, written from document 01, and the comparison of the two.
 
 mod clauses;
+mod clock;
 mod closure;
 mod colours;
 mod compare;

@@ -3,28 +3,28 @@
 use crate::draft::Draft;
 use crate::fans::{clauses, FULL};
 use crate::inputs::{grown_to, Tables};
-use crate::judge::{self, Numbers};
+use crate::judge::{self, Numbers, CONSISTENT, INCONSISTENT};
 use crate::random::Random;
 use crate::shapes::{late, middles, towers, unary_chain};
 use crate::tables::{A, B};
-use crate::{engine, random};
-use std::time::{Duration, Instant};
+use crate::{clock, engine};
 
-/// One row of the table: its name, its tables, and how many calls make one sample.
+/// One row of the table: its name and the tables that it is measured over.
 struct Row {
     name: &'static str,
     tables: Vec<Tables>,
 }
 
-/// Buffers that are long enough for every table here, and a number that every call changes, so that none is left out.
+/// Buffers that are long enough for every table here, what the calls returned (so that none is left out), and the seed.
 struct Room {
     buffers: [Vec<u8>; 3],
     seen: usize,
+    seed: u64,
 }
 
 impl Room {
-    fn new() -> Room {
-        Room { buffers: [vec![0; 512], vec![0; 4080], vec![0; 1 << 20]], seen: 0 }
+    fn new(seed: u64) -> Room {
+        Room { buffers: [vec![0; 512], vec![0; 4080], vec![0; 1 << 20]], seen: 0, seed }
     }
 
     fn lent(&mut self) -> [&mut [u8]; 3] {
@@ -35,16 +35,17 @@ impl Room {
 
 type Call = fn(&[u8], &[u8], [&mut [u8]; 3]) -> Numbers;
 
-const SHORTEST: Duration = Duration::from_micros(200);
+/// The least microseconds of a sample, and how many are taken.
+const SHORTEST: f64 = 200.0;
 const SAMPLES: usize = 15;
 
-fn timed(call: Call, tables: &Tables, calls: u32, room: &mut Room) -> Duration {
-    let start = Instant::now();
+fn timed(call: Call, tables: &Tables, calls: u32, room: &mut Room) -> f64 {
+    let start = clock::now();
     for _ in 0..calls {
         let numbers = call(&tables.terms, &tables.literals, room.lent());
         room.seen ^= numbers.records;
     }
-    start.elapsed()
+    clock::now() - start
 }
 
 /// So many calls that one sample is long enough to be timed.
@@ -61,16 +62,19 @@ fn median(times: &mut [f64]) -> f64 {
     times[times.len() / 2]
 }
 
-/// Microseconds of one call on one table, engine and model: the medians of samples taken in turn.
+/// Microseconds of one call on one table, engine and model: the least of samples taken in turn, for other work on the machine only adds to a time.
 fn measure(tables: &Tables, room: &mut Room) -> (f64, f64) {
     let calls = calls_for(tables, room);
     let (mut of_engine, mut of_model) = (Vec::new(), Vec::new());
     for _ in 0..SAMPLES {
-        let per_call = |time: Duration| time.as_secs_f64() * 1e6 / calls as f64;
-        of_engine.push(per_call(timed(engine::split, tables, calls, room)));
-        of_model.push(per_call(timed(judge::split, tables, calls, room)));
+        of_engine.push(timed(engine::split, tables, calls, room) / calls as f64);
+        of_model.push(timed(judge::split, tables, calls, room) / calls as f64);
     }
-    (median(&mut of_engine), median(&mut of_model))
+    (least(&of_engine), least(&of_model))
+}
+
+fn least(times: &[f64]) -> f64 {
+    times.iter().copied().fold(f64::INFINITY, f64::min)
 }
 
 fn worst(times: &[f64]) -> f64 {
@@ -101,17 +105,30 @@ fn only(name: &'static str, draft: Draft) -> Row {
     Row { name, tables: vec![Tables::of(&draft)] }
 }
 
-fn grown_row(name: &'static str, terms: usize, count: u64, seed: u64) -> Row {
-    let table = |i: u64| Tables::of(&grown_to(terms, &mut Random::new(random::mix(seed), i)));
-    Row { name, tables: (0..count).map(table).collect() }
+/// So many random tables of this size and verdict.
+fn grown_row(name: &'static str, terms: usize, verdict: usize, count: usize, room: &mut Room) -> Row {
+    let mut tables = Vec::new();
+    for index in 0.. {
+        let next = Tables::of(&grown_to(terms, &mut Random::new(room.seed, index)));
+        if judge::split(&next.terms, &next.literals, room.lent()).verdict == verdict {
+            tables.push(next);
+        }
+        if tables.len() == count {
+            break;
+        }
+    }
+    Row { name, tables }
 }
 
-fn rows(seed: u64) -> Vec<Row> {
+fn rows(room: &mut Room) -> Vec<Row> {
     vec![
         only("LATE", late()),
-        grown_row("random, 12 terms", 12, 200, seed),
-        grown_row("random, 64 terms", 64, 200, seed),
-        grown_row("random, 256 terms", 256, 100, seed),
+        grown_row("random, 12 terms, consistent", 12, CONSISTENT, 200, room),
+        grown_row("random, 12 terms, inconsistent", 12, INCONSISTENT, 200, room),
+        grown_row("random, 64 terms, consistent", 64, CONSISTENT, 200, room),
+        grown_row("random, 64 terms, inconsistent", 64, INCONSISTENT, 200, room),
+        grown_row("random, 256 terms, consistent", 256, CONSISTENT, 50, room),
+        grown_row("random, 256 terms, inconsistent", 256, INCONSISTENT, 50, room),
         only("256 terms, 254 derived steps", unary_chain(256, A, B)),
         only("256 terms, 248 middle terms", middles(256, 5)),
         only("256 terms, 83,232 clause records", clauses(&FULL, &FULL)),
@@ -121,10 +138,10 @@ fn rows(seed: u64) -> Vec<Row> {
 
 /// Prints the table in the form that docs/SPEED.md has it.
 pub fn speed(seed: u64) -> bool {
-    println!("| case | tables | engine, median | model, median | ratio of medians | engine, worst | model, worst | ratio of worst | highest ratio |");
+    let mut room = Room::new(seed);
+    println!("| case | tables | engine, median | model, median | ratio | engine, worst | model, worst | ratio of worst | highest ratio |");
     println!("|---|---|---|---|---|---|---|---|---|");
-    let mut room = Room::new();
-    for row in rows(seed) {
+    for row in rows(&mut room) {
         print(&row, &mut room);
     }
     true
