@@ -19,7 +19,7 @@ struct Trial {
 /// Table number `index` of this seed, and both calls on it.
 fn trial(seed: u64, index: u64) -> Trial {
     let mut random = Random::new(seed, index);
-    let tables = tables(&mut random);
+    let tables = tables(index, &mut random);
     let outcome = outcome(&tables.terms, &tables.literals);
     let fresh = Lent::new(rooms(&outcome, &mut random), random.below(256) as u8);
     let (mut for_model, mut for_engine) = (fresh.clone(), fresh);

@@ -9,6 +9,9 @@ use crate::random::Random;
 use crate::shapes::{middles, towers, unary_chain};
 use crate::soup::soup;
 
+/// How many tables of a run have a plan for certain.
+const PLANNED: u64 = 60;
+
 pub struct Tables {
     pub terms: Vec<u8>,
     pub literals: Vec<u8>,
@@ -39,13 +42,20 @@ fn any_fan(random: &mut Random) -> Fan {
     Fan { hubs: random.pick(&[1, 2, 4]), right: random.between(1, 18), groups: random.between(1, 9) }
 }
 
+/// With the first middle term given, but in no literal.
+fn idle_middle(mut draft: Draft) -> Draft {
+    draft.term(20, &[2; 4]);
+    draft
+}
+
 /// Shapes with a plan, some with their literals in another order or their terms under other numbers.
 fn shaped(random: &mut Random) -> Draft {
     let (one, two) = (random.pick(&[1, 2]), random.pick(&[1, 2]));
     let draft = match random.below(8) {
         0 | 1 => towers(random.between(0, 127), random.between(1, 4), one, two),
         2 => unary_chain(random.between(2, 256), one, two),
-        3 | 4 => middles(random.between(9, 256), random.between(2, 5)),
+        3 => middles(random.between(9, 256), random.between(2, 5)),
+        4 => idle_middle(middles(random.between(9, 255), random.between(2, 5))),
         5 => clauses(&FULL, &FULL),
         _ => clauses(&any_fan(random), &any_fan(random)),
     };
@@ -77,8 +87,9 @@ fn sound(random: &mut Random) -> Draft {
     }
 }
 
-pub fn tables(random: &mut Random) -> Tables {
-    let draft = sound(random);
+/// The tables with this number in a run. The first ones all have a plan, so that short runs meet every kind too.
+pub fn tables(index: u64, random: &mut Random) -> Tables {
+    let draft = if index < PLANNED { shaped(random) } else { sound(random) };
     let mut tables = Tables::of(&draft);
     if random.percent(15) {
         damage(&mut tables.terms, &mut tables.literals, random);
