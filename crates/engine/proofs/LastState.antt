@@ -25,15 +25,15 @@ use Rattle.running.proofs.OnRuns.{on-run-sound, arity-small, can-root}
 use Rattle.closure.proofs.Running.OwnRun.{own-run}
 use Rattle.running.proofs.OwnTurns.{checks}
 use Rattle.running.proofs.Showing.{shown-arity, shown-colour}
-use Rattle.summing.specs.declared.drawing.Drawing.{Drawing}
-use Rattle.summing.specs.Drawn.{EdgeAt, Drawn, drawing}
+use Rattle.marking.specs.declared.drawing.Drawing.{Drawing}
+use Rattle.marking.specs.Drawn.{EdgeAt, Drawn, drawing}
 use Rattle.clauses.specs.Clauses.{Clause}
 use Rattle.clauses.specs.Reading.{literalAt, summary, readBetween}
 use Rattle.clauses.specs.Records.{clauseRecords}
 use Rattle.summing.specs.Written.{Asking, AllPut, sideOf}
 use Rattle.clauses.proofs.Records.{clauseBytes, clauseBytes-length}
 use Rattle.summing.proofs.Summing.{records-written}
-use Rattle.summing.specs.declared.edges.Columns.{Columns}
+use Rattle.marking.specs.declared.edges.Columns.{Columns}
 use Rattle.demands.specs.Buffers.{writtenOver}
 use Rattle.demands.specs.Call.{recordsIn}
 use Rattle.engine.specs.Ending.{Ends, Decides, termsIn, literalsIn, recordsFor, Written, FlatRows}

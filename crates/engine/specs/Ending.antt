@@ -20,8 +20,8 @@ use Rattle.running.specs.declared.Row.{Row}
 use Rattle.running.specs.Opening.{ReadFrom}
 use Rattle.running.specs.declared.state.State.{State as Arrays}
 use Rattle.clauses.specs.Reading.{literalAt, critical}
-use Rattle.summing.specs.declared.drawing.Drawing.{Drawing}
-use Rattle.summing.specs.Drawn.{Drawn}
+use Rattle.marking.specs.declared.drawing.Drawing.{Drawing}
+use Rattle.marking.specs.Drawn.{Drawn}
 use Rattle.demands.specs.Buffers.{writtenOver}
 use Rattle.demands.specs.Call.{recordsIn}
 

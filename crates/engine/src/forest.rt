@@ -1,13 +1,13 @@
 // The last graph and its terms, laid out as plain arrays for the clause layer.
 
 use graphs::graph::Graph;
+use marking::edges;
+use marking::edges::Columns;
 use running::Row;
-use summing::edges;
-use summing::edges::Columns;
 ghost use Prim.Native.Nat.{_≤_};
 ghost use Rattle.closure.specs.Forests.{Each};
 ghost use Rattle.graphs.specs.Layout.{edgesOf};
-ghost use Rattle.summing.specs.Drawn.{EdgeAt};
+ghost use Rattle.marking.specs.Drawn.{EdgeAt};
 ghost use Rattle.engine.specs.Ending.{FlatRows};
 
 // Each edge under its number: the edge records are lent to the clause layer's walk.

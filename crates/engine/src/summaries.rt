@@ -2,8 +2,8 @@
 
 use super::forest;
 use graphs::rooting;
+use marking::drawing::Drawing;
 use running::state::State;
-use summing::drawing::Drawing;
 use summing::summary;
 use tables::Tables;
 ghost use Rattle.engine.specs.Ending.{EndsSome, DrawnLast, Decides, recordsFor, Written};

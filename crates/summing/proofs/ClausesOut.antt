@@ -19,16 +19,16 @@ use Rattle.closure.proofs.Walking.Parents.{path-hop}
 use Rattle.clauses.specs.Clauses.{between, Conclusion, differs, falsum}
 use Rattle.clauses.specs.Premises.{premises, Premise}
 use Rattle.clauses.specs.Records.{amongPairs, ascending, clauseRecord, conclusionRecord}
-use Rattle.summing.specs.declared.drawing.Drawing.{Drawing}
-use Rattle.summing.specs.Marks.{Reached, PairWithin, PairMarked, Marked, Covered, Owed, Trailed, Wanted, OuterWanted}
-use Rattle.summing.specs.Drawn.{Drawn, Settled}
+use Rattle.marking.specs.declared.drawing.Drawing.{Drawing}
+use Rattle.marking.specs.Marks.{Reached, PairWithin, PairMarked, Marked, Covered, Owed, Trailed, Wanted, OuterWanted}
+use Rattle.marking.specs.Drawn.{Drawn, Settled}
 use Rattle.summing.specs.Writing.{putRecord, putRecords, marked, rowPairs, PremisesOut, AllOut}
 use Rattle.summing.specs.Written.{clauseOf, clauseOut, RecordsPut, Clear, Readable, ReadableSome, ClausesPut, Over, Concluding, notAt, LastPut}
-use Rattle.summing.proofs.Reached.{reached-premise, premise-reached, wants-owed, owed-kept, reached-owed}
+use Rattle.marking.proofs.Reached.{reached-premise, premise-reached, wants-owed, owed-kept, reached-owed}
 use Rattle.clauses.proofs.Pieces.{records-clause, record-equals, record-differs, record-falsum, ascending-kept, among-mem}
 use Rattle.clauses.proofs.OneClause.{premise-within, premisesIn-mean}
 use Rattle.clauses.proofs.Records.{record-length, conclusionRecord-kind}
-use Rattle.summing.proofs.Squares.{between-below, between-above}
+use Rattle.marking.proofs.Squares.{between-below, between-above}
 use Rattle.summing.proofs.RecordsOut.{put-append, put-more, put-length, premises-length, keep-agree, keep-append, keep-one, keep-not, row-empty, row-more, rows-more, row-unmarked}
 
 -- ---- marks

@@ -14,8 +14,8 @@ use Rattle.tables.specs.Words.{Pair, pair, below, keep, pairsBelow}
 use Rattle.tables.proofs.Words.{by-test, below-mem, same-test, keep-mem, failed}
 use Rattle.clauses.specs.Records.{clauseRecord}
 use Rattle.summing.specs.Writing.{putRecord, putRecords, marked, rowPairs, PremisesOut, RowCleared, RowOut, AllOut}
-use Rattle.summing.specs.Marks.{PairWithin, placeOf, PairMarked, Marked, Covered}
-use Rattle.summing.proofs.Squares.{same-or-not, one-place, within-square}
+use Rattle.marking.specs.Marks.{PairWithin, placeOf, PairMarked, Marked, Covered}
+use Rattle.marking.proofs.Squares.{same-or-not, one-place, within-square}
 use Rattle.clauses.proofs.Records.{record-length}
 
 -- a record that fits

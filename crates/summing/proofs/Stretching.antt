@@ -11,11 +11,11 @@ use lib.ListN.{getD}
 use Rattle.tables.specs.Words.{any}
 use Rattle.tables.proofs.Words.{below-or-is, passed, failed, or-left, or-right}
 use Rattle.closure.specs.Graph.{Path}
-use Rattle.summing.specs.Marks.{Trailed, done, step}
+use Rattle.marking.specs.Marks.{Trailed, done, step}
 use Rattle.clauses.specs.Reading.{Stretches, fromFirst, stretches}
 use Rattle.summing.specs.Written.{FirstB, LastB}
 use Rattle.clauses.proofs.Pieces.{fromFirst-none, fromFirst-hop, stretches-none, stretches-hop}
-use Rattle.summing.proofs.Trails.{trailed-forward}
+use Rattle.marking.proofs.Trails.{trailed-forward}
 
 module _ (inB : ℕ → Bool) (inb : List Bool) (stops edges : List ℕ) (hops : ℕ) where
   -- the stop at a place is in B

@@ -28,9 +28,9 @@ use Rattle.clauses.specs.Clauses.{between, Clause, equals, differs, falsum}
 use Rattle.clauses.specs.Premises.{premises, pathClauses}
 use Rattle.clauses.specs.Reading.{Stretches, stretches, endOf, notMiddle, clausesIn, outerPremises, readA, readBetween}
 use Rattle.clauses.specs.Records.{ascending, concluding, isLast, firstAlone, inOrder, recordsOf, clauseRecords}
-use Rattle.summing.specs.declared.drawing.Drawing.{Drawing}
-use Rattle.summing.specs.Marks.{Reached, across, along, PairWithin, placeOf, PairMarked, Trailed, done, step}
-use Rattle.summing.specs.Drawn.{DrawnSome}
+use Rattle.marking.specs.declared.drawing.Drawing.{Drawing}
+use Rattle.marking.specs.Marks.{Reached, across, along, PairWithin, placeOf, PairMarked, Trailed, done, step}
+use Rattle.marking.specs.Drawn.{DrawnSome}
 use Rattle.summing.specs.Writing.{marked}
 use Rattle.summing.specs.Written.{clauseOf, clauseOut, RecordsPut, Readable, FirstB, LastB, Concluding, notAt, LastPut, Clear, ClausesPut, Asking, AskingSome, sideOf, AllPut, Summarised}
 use Rattle.clauses.proofs.Pieces.{equals-kind, middle-kind, endOf-none, endOf-hop, notMiddle-none, notMiddle-hop, stretches-none, first-none, first-some, records-standing, read-B, read-A}
@@ -40,12 +40,12 @@ use Rattle.clauses.proofs.Interpolation.{lastClause, ReadingA, of-middle, of-ou
 use Rattle.clauses.proofs.Order.{concludes-eq, eq-concludes, ascending-agree}
 use Rattle.clauses.proofs.OneClause.{OfPath, FromPaths, from-paths-premises, read-from-paths, listed-of-path, walk-enough, premise-within, premisesIn-mean, outerPremises-mean}
 use Rattle.summing.proofs.ClausesOut.{none-marked, flatMap-append, records-append}
-use Rattle.summing.proofs.Owing.{PathRead, path-read, joins}
+use Rattle.marking.proofs.Owing.{PathRead, path-read, joins}
 use Rattle.summing.proofs.RecordsOut.{keep-none, puts-fit}
 use Rattle.clauses.proofs.Records.{clauseBytes, clauseRecords-eight}
-use Rattle.summing.proofs.Trails.{trailed-forward}
+use Rattle.marking.proofs.Trails.{trailed-forward}
 use Rattle.summing.proofs.Stretching.{stretches-cut}
-use Rattle.summing.proofs.Reached.{premise-joins, under-premise, premise-under, conclusions-reached}
+use Rattle.marking.proofs.Reached.{premise-joins, under-premise, premise-under, conclusions-reached}
 
 -- ---- lists of lists
 

@@ -8,7 +8,7 @@ use lib.Dec.{leb, ltb}
 use lib.ListN.{length, getD, take, drop}
 use Rattle.tables.specs.Words.{Pair, pair, below, keep, pairsBelow}
 use Rattle.clauses.specs.Records.{clauseRecord}
-use Rattle.summing.specs.Marks.{PairWithin, placeOf, PairMarked}
+use Rattle.marking.specs.Marks.{PairWithin, placeOf, PairMarked}
 
 -- record number `at` of 8 bytes replaced, where it is in the buffer
 unfoldable pub putRecord : ℕ → List ℕ → List ℕ → List ℕ

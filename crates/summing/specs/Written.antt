@@ -18,9 +18,9 @@ use Rattle.clauses.specs.Clauses.{between, Clause, Conclusion, equals, differs,
 use Rattle.clauses.specs.Premises.{premises, Premise}
 use Rattle.clauses.specs.Records.{ascending, recordsOf, clauseRecords}
 use Rattle.clauses.specs.Reading.{readBetween}
-use Rattle.summing.specs.declared.drawing.Drawing.{Drawing}
-use Rattle.summing.specs.Marks.{Reached, PairWithin, PairMarked, Covered, Square, Trailed}
-use Rattle.summing.specs.Drawn.{Drawn}
+use Rattle.marking.specs.declared.drawing.Drawing.{Drawing}
+use Rattle.marking.specs.Marks.{Reached, PairWithin, PairMarked, Covered, Square, Trailed}
+use Rattle.marking.specs.Drawn.{Drawn}
 use Rattle.summing.specs.Writing.{putRecords}
 
 -- the clause that concludes p, its premises in ascending order

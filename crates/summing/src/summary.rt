@@ -1,17 +1,17 @@
 // The summary: each concluded pair as a clause, in ascending order.
-use super::drawing;
-use super::drawing::Drawing;
-use super::marks;
-use super::settling;
 use super::writing;
 use graphs::paths::Trail;
+use marking::drawing;
+use marking::drawing::Drawing;
+use marking::marks;
+use marking::settling;
 ghost use mathlib.Core.List.{_∷_, []};
 ghost use mathlib.Core.Path.{_≡_};
 ghost use Prim.Native.Nat.{_+_, _*_, _^_, _≤_, _<_};
 ghost use lib.ListN.{length};
 ghost use Rattle.tables.specs.Words.{pair, keep, pairsBelow};
-ghost use Rattle.summing.specs.Marks.{PairMarked, Covered, Square, Within};
-ghost use Rattle.summing.specs.Drawn.{DrawnSome};
+ghost use Rattle.marking.specs.Marks.{PairMarked, Covered, Square, Within};
+ghost use Rattle.marking.specs.Drawn.{DrawnSome};
 ghost use Rattle.clauses.specs.Records.{conclusionRecord};
 ghost use Rattle.summing.specs.Writing.{putRecord, marked, rowPairs};
 ghost use Rattle.summing.specs.Written.{Clear, ReadableSome, ClausesPut, FirstB, LastB, Concluding, notAt, LastPut, AskingSome, sideOf, Summarised};

@@ -4,7 +4,7 @@ ghost use Prim.Native.Nat.{_+_, _*_, _^_, _≤_, _<_};
 ghost use lib.ListN.{length};
 ghost use Rattle.tables.specs.Words.{pair};
 ghost use Rattle.clauses.specs.Records.{clauseRecord};
-ghost use Rattle.summing.specs.Marks.{Covered};
+ghost use Rattle.marking.specs.Marks.{Covered};
 ghost use Rattle.summing.specs.Writing.{putRecord, RowOut, AllOut};
 
 // Writes one record where it fits, so that a run over an empty buffer counts the records.

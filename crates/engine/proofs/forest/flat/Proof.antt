@@ -2,7 +2,7 @@
 use Prim.Native.Nat.{_-_, _≤_}
 use native.Mathlib.Omega.{arith}
 use mathlib.Core.Path.{refl}
-use Rattle.summing.proofs.Filling.{Filled, filled-none, filled-more}
+use Rattle.marking.proofs.Filling.{Filled, filled-none, filled-more}
 use Rattle.engine.proofs.Layouts.{fieldIn}
 use Rattle.engine.proofs.forest.flat.Statement.{statement}
 use Rattle.engine.proofs.forest.flat.Tie as tie

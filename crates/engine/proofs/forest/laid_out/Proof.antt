@@ -52,14 +52,14 @@ use Rattle.closure.proofs.Edge as E
 use Rattle.closure.proofs.Edge.Laws as E′
 use Rattle.graphs.proofs.graph.Graph as G
 use Rattle.graphs.proofs.graph.Graph.Laws as G′
-use Rattle.summing.specs.Drawn.{EdgeAt}
-use Rattle.summing.specs.declared.edges.Columns.{Columns}
-use Rattle.summing.proofs.edges.Columns as T
-use Rattle.summing.proofs.edges.Columns.Laws as T′
-use Rattle.summing.proofs.edges.columns_of as walk
-use Rattle.summing.proofs.edges.columns_of.Symbol as walk-def
-use Rattle.summing.proofs.edges.columns_of.Symbol.{name as #walk}
-use Rattle.summing.proofs.edges.columns_of.Met as walk-thm
+use Rattle.marking.specs.Drawn.{EdgeAt}
+use Rattle.marking.specs.declared.edges.Columns.{Columns}
+use Rattle.marking.proofs.edges.Columns as T
+use Rattle.marking.proofs.edges.Columns.Laws as T′
+use Rattle.marking.proofs.edges.columns_of as walk
+use Rattle.marking.proofs.edges.columns_of.Symbol as walk-def
+use Rattle.marking.proofs.edges.columns_of.Symbol.{name as #walk}
+use Rattle.marking.proofs.edges.columns_of.Met as walk-thm
 use Rattle.engine.proofs.forest.laid_out.Key.{name as #lend}
 use Rattle.engine.proofs.forest.laid_out as lend
 use Rattle.engine.proofs.forest.laid_out.Statement as stated
@@ -219,4 +219,4 @@ laid-out-spec 𝓤 H 𝓜 𝓖 𝓡 =
     entered 𝓤 H (tripleOf 𝓤 H (𝓖 .A) lend.signature (lend.spec 𝓤 H (𝓖 .A) (𝓜 .mem) (𝓡 .run)))
     (tables 𝓤 H 𝓜 𝓡 code.env .C) (tables 𝓤 H 𝓜 𝓡 code.env .Λ) #lend code.function (code.unfolded 𝓤 H 𝓜 𝓡)
     (all-meets 𝓤 H (𝓖 .A) (givenOf 𝓤 H 𝓜 𝓖) (𝓜 .mem) (𝓡 .run) (tablesOf 𝓤 H 𝓜 (tables 𝓤 H 𝓜 𝓡 code.env))
-    (cited 𝓤 H (Walk 𝓤 H (𝓖 .A) (givenOf 𝓤 H 𝓜 𝓖) (𝓜 .mem) (𝓡 .run)) 𝓜 𝓡 code.env #walk walk-def.routine code.calls-summing·edges·columns-of (walk-thm.met 𝓤 H 𝓜 𝓖 𝓡)))
+    (cited 𝓤 H (Walk 𝓤 H (𝓖 .A) (givenOf 𝓤 H 𝓜 𝓖) (𝓜 .mem) (𝓡 .run)) 𝓜 𝓡 code.env #walk walk-def.routine code.calls-marking·edges·columns-of (walk-thm.met 𝓤 H 𝓜 𝓖 𝓡)))

@@ -3,7 +3,7 @@ use mathlib.Core.Bool.{false}
 use mathlib.Core.Path.{refl}
 use native.Mathlib.Omega.{arith}
 use lib.ListN.{replicate, length-replicate}
-use Rattle.summing.proofs.Owing.{joins, path-read}
+use Rattle.marking.proofs.Owing.{joins, path-read}
 use Rattle.summing.proofs.ClausesOut.{none-covered, clause-put}
 use borrow.Author.Needs.{needs}
 use Rattle.summing.proofs.summary.clause_out.Statement.{statement}

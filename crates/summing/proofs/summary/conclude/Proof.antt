@@ -1,7 +1,7 @@
 -- `conclude` meets its contract: three stretches are read, and the pass marks what they owe.
 use mathlib.Core.Bool.{false}
 use lib.ListN.{length-replicate}
-use Rattle.summing.proofs.Trails.{within-part}
+use Rattle.marking.proofs.Trails.{within-part}
 use Rattle.summing.proofs.ClausesOut.{concluded}
 use Rattle.summing.proofs.summary.conclude.Statement.{statement}
 use Rattle.summing.proofs.summary.conclude.Tie as tie

@@ -1,0 +1,35 @@
+-- `mark_pair` meets its contract: the place is the pair's, and the row is that of the lower vertex.
+use mathlib.Core.Path.{sym, ap}
+use native.Mathlib.Omega.{arith}
+use borrow.Author.Needs.{needs}
+use Rattle.tables.specs.Words.{Pair}
+use Rattle.marking.proofs.Squares.{between-below, between-above, between-square, pair-added}
+use Rattle.marking.proofs.marks.mark_pair.Statement.{statement}
+use Rattle.marking.proofs.marks.mark_pair.Tie as tie
+
+place-requires : tie.Need-place-requires
+place-requires c κs = search needs
+
+element-write-pairs : tie.Need-element-write-pairs
+element-write-pairs c =
+    let s = between-square (c .before .args .u) (c .before .args .v) (c .before .pre .0 .0) (c .before .pre .0 .1) in
+    omega (arith, c .place .ensures)
+
+element-write-rows : tie.Need-element-write-rows
+element-write-rows c = search needs
+
+element-write-rows-2 : tie.Need-element-write-rows-2
+element-write-rows-2 c = search needs
+
+returns : tie.Need-returns
+returns c =
+    let p = c .before .before .pre in
+    pair-added _ _ _ _ _ (c .before .place .ensures) (sym (ap (λ (q : Pair). q .left) (between-below _ _ (c .if1 .taken)))) (between-square _ _ (p .0 .0) (p .0 .1)) (p .1)
+
+returns-2 : tie.Need-returns-2
+returns-2 c =
+    let p = c .before .before .pre in
+    pair-added _ _ _ _ _ (c .before .place .ensures) (sym (ap (λ (q : Pair). q .left) (between-above _ _ (c .if1 .left)))) (between-square _ _ (p .0 .0) (p .0 .1)) (p .1)
+
+pub mark-pair-spec : {M : Type 1} → statement M
+mark-pair-spec = tie.close (tie.spec place-requires element-write-pairs element-write-rows element-write-rows-2 returns returns-2)
