@@ -109,6 +109,34 @@ fn want_edges(
 
 // What reading a stretch asks for: the ends of its factors of colour b, unless they do not count; the parent paths of its other edges; and, where
 // clauses are read, b being A, those of its A-edges too.
+pub fn want_along(
+    inb: &[bool; 510],
+    stops: &[u16; 511],
+    edges: &[u16; 511],
+    lo: usize,
+    hi: usize,
+    b: bool,
+    whole: bool,
+    pairs: &mut [bool; 261121],
+    rows: &mut [bool; 511],
+    inside: &mut [bool; 510],
+    under: &mut [bool; 510],
+)
+    requires { ⌜ Within (now stops) (now edges) lo hi ⌝ }
+    requires { ⌜ Square (now pairs) (now rows) ⌝ }
+    requires { ⌜ (length (now inside) ≡ 510) × (length (now under) ≡ 510) ⌝ }
+    ensures { λ _. ⌜ Wanted (now (inb .entry)) (now (stops .entry)) (now (edges .entry)) lo hi b whole (now (pairs .entry)) (now (rows .entry)) (now (inside .entry)) (now (under .entry)) (now (pairs .exit)) (now (rows .exit)) (now (inside .exit)) (now (under .exit)) ⌝ }
+{
+    if whole {
+        want_factors(inb, stops, edges, lo, hi, b, pairs, rows);
+    }
+    want_edges(inb, stops, edges, lo, hi, !b, inside);
+    if !b {
+        want_edges(inb, stops, edges, lo, hi, false, under);
+    }
+}
+
+// The same of a stretch of a trail.
 pub fn want(
     inb: &[bool; 510],
     t: Trail,
@@ -128,13 +156,19 @@ pub fn want(
 {
     let stops = t.stops;
     let edges = t.edges;
-    if whole {
-        want_factors(inb, &stops, &edges, lo, hi, b, pairs, rows);
-    }
-    want_edges(inb, &stops, &edges, lo, hi, !b, inside);
-    if !b {
-        want_edges(inb, &stops, &edges, lo, hi, false, under);
-    }
+    want_along(
+        inb,
+        &stops,
+        &edges,
+        lo,
+        hi,
+        b,
+        whole,
+        pairs,
+        rows,
+        inside,
+        under,
+    );
 }
 
 // The stretches before and after the middle one of a path, their own factors where those of B are read.

@@ -8,7 +8,8 @@ ghost use Prim.Native.Nat.{_<_};
 ghost use lib.ListN.{getD};
 ghost use Rattle.marking.specs.Drawn.{drawing, DrawnSome, InOrder, EdgeSettled, Settled};
 
-// What the parent paths of one derived edge ask for. The arrays are lent one by one, so that no edge copies them.
+// What the parent paths of one derived edge ask for. The arrays are lent one by one, so that no edge copies them, and the paths are laid in the same
+// two arrays, one after the other.
 fn settle_edge<'a>(
     args: &'a [u16; 2044],
     arities: &'a [u8; 511],
@@ -36,13 +37,14 @@ fn settle_edge<'a>(
     let l = lefts[i] as usize;
     let r = rights[i] as usize;
     let arity = arities[l] as usize;
+    let stops = &mut [0u16; 511];
+    let ways = &mut [0u16; 511];
     let mut j = 0;
     while j < arity {
         let u = args[4 * l + j];
         let v = args[4 * r + j];
-        let t = paths::path(toward, by, rank, u, v);
-        let hops = t.hops;
-        marks::want(inb, t, 0, hops, b, whole, pairs, rows, inside, under);
+        let n = paths::lay_path(toward, by, rank, u, v, stops, ways);
+        marks::want_along(inb, stops, ways, 0, n, b, whole, pairs, rows, inside, under);
         j += 1;
     }
 }

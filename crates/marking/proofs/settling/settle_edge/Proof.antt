@@ -1,17 +1,19 @@
 -- `settle_edge` meets its contract: the paths between the arguments passed are read.
 use Prim.Native.Nat.{_≤_, _-_}
 use native.Mathlib.Omega.{arith}
+use borrow.Author.Needs.{needs}
+use Rattle.graphs.specs.Trails.{Room, trail}
 use Rattle.marking.specs.Drawn.{drawing}
 use Rattle.marking.proofs.Owing.{EdgeTo, edge-none, edge-more, edge-all, Bounds, bounds, path-asked, path-given}
 use Rattle.marking.proofs.settling.settle_edge.Statement.{statement}
 use Rattle.marking.proofs.settling.settle_edge.Tie as tie
 
 abbrev Inv-loop : tie.InvT-loop
-Inv-loop args arities toward by rank lefts rights inb derived count i b whole pairs₀ rows₀ inside₀ under₀ l r arity j₀ pairs rows inside under j =
-    (j ≤ arity) × EdgeTo (drawing args arities toward by rank lefts rights inb derived count) i b whole pairs₀ rows₀ inside₀ under₀ j pairs rows inside under
+Inv-loop args arities toward by rank lefts rights inb derived count i b whole pairs₀ rows₀ inside₀ under₀ l r arity stops₀ ways₀ j₀ pairs rows inside under stops ways j =
+    (j ≤ arity) × EdgeTo (drawing args arities toward by rank lefts rights inb derived count) i b whole pairs₀ rows₀ inside₀ under₀ j pairs rows inside under × Room stops ways
 
 abbrev μ-loop : tie.MeasureT-loop
-μ-loop args arities toward by rank lefts rights inb derived count i b whole pairs₀ rows₀ inside₀ under₀ l r arity j₀ pairs rows inside under j =
+μ-loop args arities toward by rank lefts rights inb derived count i b whole pairs₀ rows₀ inside₀ under₀ l r arity stops₀ ways₀ j₀ pairs rows inside under stops ways j =
     arity - j
 
 -- the places that the edge leads to
@@ -43,57 +45,70 @@ cast-arity : tie.Need-cast-arity Inv-loop μ-loop
 cast-arity c = omega (arith, start (c .before .before .before))
 
 loop-holds : tie.Need-loop-holds Inv-loop μ-loop
-loop-holds c = (omega arith, edge-none _ _ _ _ _ _ _ _ (c .before .before .before .pre .1 .0))
+loop-holds c = (omega arith, edge-none _ _ _ _ _ _ _ _ (c .before .before .before .before .before .pre .1 .0), search needs)
 
 mul-u : tie.Need-mul-u Inv-loop μ-loop
-mul-u c = omega (arith, start (c .before .before .before .before .before))
+mul-u c = omega (arith, start (c .before .before .before .before .before .before .before))
 
 add-u : tie.Need-add-u Inv-loop μ-loop
-add-u c = omega (arith, start (c .before .before .before .before .before))
+add-u c = omega (arith, start (c .before .before .before .before .before .before .before))
 
 mul-u-2 : tie.Need-mul-u-2 Inv-loop μ-loop
-mul-u-2 c = omega (arith, start (c .before .before .before .before .before))
+mul-u-2 c = omega (arith, start (c .before .before .before .before .before .before .before))
 
 element-copy-out-u : tie.Need-element-copy-out-u Inv-loop μ-loop
-element-copy-out-u c = omega (arith, start (c .before .before .before .before .before))
+element-copy-out-u c = omega (arith, start (c .before .before .before .before .before .before .before))
 
 mul-v : tie.Need-mul-v Inv-loop μ-loop
-mul-v c = omega (arith, start (c .before .before .before .before .before .before))
+mul-v c = omega (arith, start (c .before .before .before .before .before .before .before .before))
 
 add-v : tie.Need-add-v Inv-loop μ-loop
-add-v c = omega (arith, start (c .before .before .before .before .before .before))
+add-v c = omega (arith, start (c .before .before .before .before .before .before .before .before))
 
 mul-v-2 : tie.Need-mul-v-2 Inv-loop μ-loop
-mul-v-2 c = omega (arith, start (c .before .before .before .before .before .before))
+mul-v-2 c = omega (arith, start (c .before .before .before .before .before .before .before .before))
 
 element-copy-out-v : tie.Need-element-copy-out-v Inv-loop μ-loop
-element-copy-out-v c = omega (arith, start (c .before .before .before .before .before .before))
+element-copy-out-v c = omega (arith, start (c .before .before .before .before .before .before .before .before))
 
-path-requires : tie.Need-path-requires Inv-loop μ-loop
-path-requires c κs = path-asked _ _ (c .before .before .before .before .before .before .before .pre .1 .1 .0) (c .before .before .before .before .before .before .before .pre .1 .1 .1) (c .before .before .before .loop .j) (c .before .before .loop-test .taken) (c .before .before .before .before .before .before .before .pre .0)
+lay-path-requires : tie.Need-lay-path-requires Inv-loop μ-loop
+lay-path-requires c κs =
+    let s = c .before .before .before .before .before .before .before .before .before .before .before in
+    let l = c .before .before .before .before .before .loop in
+    (path-asked _ _ (s .pre .1 .1 .0) (s .pre .1 .1 .1) (l .j) (c .before .before .before .before .loop-test .taken) (s .pre .0), l .inv .2)
 
-want-requires : tie.Need-want-requires Inv-loop μ-loop
-want-requires c κs =
-    let s = c .before .before .before .before .before .before .before .before .before .before .before .before .pre .0 in
-    let o = c .before .before .before .before .before .before .before .before .loop .inv .1 .in-order in
-    let g = path-given _ _ (c .before .before .before .before .before .before .before .before .before .before .before .before .pre .1 .1 .0) (c .before .before .before .before .before .before .before .before .before .before .before .before .pre .1 .1 .1) (c .before .before .before .before .before .before .before .before .loop .j) (c .before .before .before .before .before .before .before .loop-test .taken) (c .before .before .before .before .path .result) (c .before .before .before .before .path .ensures) (s .0) (s .1) (s .2) (s .3) (s .4) in
+want-along-requires : tie.Need-want-along-requires Inv-loop μ-loop
+want-along-requires c κs =
+    let s = c .before .before .before .before .before .before .before .before .before .before .before .before .before .before .before .before .before .before in
+    let d = s .pre .0 in
+    let l = c .before .before .before .before .before .before .before .before .before .before .before .before .loop in
+    let o = l .inv .1 .in-order in
+    let p = c .before .before .before .before .before .before .lay-path in
+    let g = path-given _ _ (s .pre .1 .1 .0) (s .pre .1 .1 .1) (l .j) (c .before .before .before .before .before .before .before .before .before .before .before .loop-test .taken) (trail (p .last .1 .1 .1 .1 .1 .0) (p .last .1 .1 .1 .1 .1 .1 .0) (p .result)) (p .ensures .1) (d .0) (d .1) (d .2) (d .3) (d .4) in
     (g .within, (o .square, (o .inside-sized, o .under-sized)))
 
 add-j : tie.Need-add-j Inv-loop μ-loop
-add-j c = omega (arith, start (c .before .before .before .before .before .before .before .before .before .before .before .before .before), c .before .before .before .before .before .before .before .before .loop-test .taken)
+add-j c = omega (arith, start (c .before .before .before .before .before .before .before .before .before .before .before .before .before .before .before .before .before .before .before), c .before .before .before .before .before .before .before .before .before .before .before .before .loop-test .taken)
 
 loop-less : tie.Need-loop-less Inv-loop μ-loop
-loop-less c = omega (arith, c .before .before .before .before .before .before .before .before .loop-test .taken)
+loop-less c = omega (arith, c .before .before .before .before .before .before .before .before .before .before .before .before .loop-test .taken)
 
 loop-again : tie.Need-loop-again Inv-loop μ-loop
 loop-again c =
-    let t = c .before .before .before .before .before .before .before .before .loop-test .taken in
-    (omega (arith, t), edge-more _ _ _ _ (c .before .before .before .before .before .before .before .before .before .before .before .before .before .pre .1 .1 .0) (c .before .before .before .before .before .before .before .before .before .before .before .before .before .pre .1 .1 .1) _ _ _ _ (c .before .before .before .before .before .before .before .before .before .loop .j) _ _ _ _ _ _ _ _ (c .before .before .before .before .before .path .result .stops) (c .before .before .before .before .before .path .result .edges) (c .before .before .before .before .before .path .result .hops) t (λ ts ls table G d. path-given _ _ (c .before .before .before .before .before .before .before .before .before .before .before .before .before .pre .1 .1 .0) (c .before .before .before .before .before .before .before .before .before .before .before .before .before .pre .1 .1 .1) (c .before .before .before .before .before .before .before .before .before .loop .j) t (c .before .before .before .before .before .path .result) (c .before .before .before .before .before .path .ensures) ts ls table G d .trailed) (c .before .before .before .before .before .before .before .before .before .loop .inv .1) (c .want .ensures))
+    let s = c .before .before .before .before .before .before .before .before .before .before .before .before .before .before .before .before .before .before .before in
+    let l = c .before .before .before .before .before .before .before .before .before .before .before .before .before .loop in
+    let t = c .before .before .before .before .before .before .before .before .before .before .before .before .loop-test .taken in
+    let p = c .before .before .before .before .before .before .before .lay-path in
+    let stops = p .last .1 .1 .1 .1 .1 .0 in
+    let ways = p .last .1 .1 .1 .1 .1 .1 .0 in
+    let more = edge-more _ _ _ _ (s .pre .1 .1 .0) (s .pre .1 .1 .1) _ _ _ _ (l .j) _ _ _ _ _ _ _ _ stops ways (p .result) t (λ ts ls table G d. path-given _ _ (s .pre .1 .1 .0) (s .pre .1 .1 .1) (l .j) t (trail stops ways (p .result)) (p .ensures .1) ts ls table G d .trailed) (l .inv .1) (c .want-along .ensures) in
+    (omega (arith, t), more, p .ensures .0)
 
 returns : tie.Need-returns Inv-loop μ-loop
 returns c =
+    let s = c .before .before .before .before .before .before .before in
     let x = c .before .loop .inv in
-    edge-all _ _ _ _ (c .before .before .before .before .before .pre .1 .1 .0) (c .before .before .before .before .before .pre .1 .1 .1) _ _ _ _ (c .before .loop .j) _ _ _ _ (omega (arith, x .0, c .loop-test .left)) (x .1)
+    edge-all _ _ _ _ (s .pre .1 .1 .0) (s .pre .1 .1 .1) _ _ _ _ (c .before .loop .j) _ _ _ _ (omega (arith, x .0, c .loop-test .left)) (x .1)
 
 pub settle-edge-spec : {M : Type 1} → statement M
 settle-edge-spec =
@@ -118,8 +133,8 @@ settle-edge-spec =
     add-v
     mul-v-2
     element-copy-out-v
-    path-requires
-    want-requires
+    lay-path-requires
+    want-along-requires
     add-j
     loop-less
     loop-again
