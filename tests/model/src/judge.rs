@@ -21,6 +21,9 @@ pub const CONSISTENT: usize = 0;
 pub const INCONSISTENT: usize = 1;
 pub const REFUSED: usize = 2;
 
+/// A call: the two tables, and the buffers for the partition, the added terms and the clauses.
+pub type Call = fn(&[u8], &[u8], [&mut [u8]; 3]) -> Numbers;
+
 /// The verdict with all that it would write, before room is judged.
 pub enum Outcome {
     Refused(Refusal),
@@ -85,7 +88,7 @@ fn refused(number: usize, place: usize) -> Numbers {
     Numbers { verdict: REFUSED, number, place, ..Numbers::default() }
 }
 
-/// Judges the room and writes. The buffers are those for the partition, the added terms and the clauses.
+/// Judges the room and writes.
 pub fn write(outcome: &Outcome, buffers: [&mut [u8]; 3]) -> Numbers {
     let [lent_partition, lent_added, lent_clauses] = buffers;
     match outcome {

@@ -3,7 +3,7 @@
 use crate::draft::Draft;
 use crate::fans::{clauses, FULL};
 use crate::inputs::{grown_to, Tables};
-use crate::judge::{self, Numbers, CONSISTENT, INCONSISTENT};
+use crate::judge::{self, Call, CONSISTENT, INCONSISTENT};
 use crate::random::Random;
 use crate::shapes::{late, middles, towers, unary_chain};
 use crate::tables::{A, B};
@@ -32,8 +32,6 @@ impl Room {
         [partition, added, clauses]
     }
 }
-
-type Call = fn(&[u8], &[u8], [&mut [u8]; 3]) -> Numbers;
 
 /// The least microseconds of a sample, and how many are taken.
 const SHORTEST: f64 = 200.0;

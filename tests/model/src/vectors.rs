@@ -1,6 +1,6 @@
 //! The answers of vector files beside those of the model and of the engine.
 
-use crate::judge::{Numbers, CONSISTENT, INCONSISTENT, REFUSED};
+use crate::judge::{Call, Numbers, CONSISTENT, INCONSISTENT, REFUSED};
 use crate::lent::Lent;
 use crate::{engine, hex, judge};
 
@@ -13,7 +13,7 @@ struct Case {
 /// `TERMS LITERALS PARTITION ADDED CLAUSES | ANSWER`, with or without a `NAME |` before it.
 fn case(line: &str) -> Option<Case> {
     let parts: Vec<&str> = line.split(" | ").collect();
-    let fields: Vec<&str> = parts.get(parts.len() - 2)?.split(' ').collect();
+    let fields: Vec<&str> = parts.get(parts.len().checked_sub(2)?)?.split(' ').collect();
     let length = |i: usize| fields.get(i)?.parse::<usize>().ok();
     Some(Case {
         tables: [hex::read(fields.first()?)?, hex::read(fields.get(1)?)?],
@@ -43,8 +43,6 @@ fn line(numbers: Numbers, terms: usize, lent: &mut Lent, fresh: &Lent) -> String
         _ => format!("inconsistent by {} added={} clauses={}", numbers.disequality, texts[1], texts[2]),
     }
 }
-
-type Call = fn(&[u8], &[u8], [&mut [u8]; 3]) -> Numbers;
 
 fn answers(case: &Case, name: &str, call: Call) -> bool {
     let fresh = Lent::new(case.lengths, 90);
