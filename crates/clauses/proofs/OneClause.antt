@@ -34,7 +34,7 @@ use Rattle.clauses.specs.Truth.{TrueClauses, SharedClause, Summarises}
 use Rattle.clauses.proofs.Factors.{Stretch, last-one, allHops, factors-whole, factors-stretch, longest-factors, factor-walk}
 use Rattle.clauses.proofs.Truths.{between-sides, factor-hopOf, older-sound, parent-below, premise-joined}
 use Rattle.clauses.proofs.Shared.{walk-carries}
-use Rattle.clauses.proofs.Stretches.{Divided, stretches-divided, endOf-walk}
+use Rattle.clauses.proofs.Stretches.{Divided, stretches-divided, endOf-walk, before-is, middle-is, after-is}
 use Rattle.clauses.proofs.Meaning.{Enough, path-enough, Listed, premise-meaning, premise-listed, premises-mean, clause-meaning, clause-listed}
 use Rattle.clauses.proofs.Interpolation.{lastClause, outer-cases, outer-before, outer-after, ReadingA, of-middle, of-outer, of-last, readA-mem, summary-shared, summary-A, summary-B}
 use Rattle.clauses.proofs.Order.{PairWithin, ConclusionWithin, ClauseWithin, OneEach, SameClause, SaidBy, ascending-mem, mem-ascending, all-standing, standing-exactly, between-within}
@@ -224,33 +224,21 @@ module _ (ts : List Term) (ls : List Literal) (table : List Term) (G : Graph) (s
       record {
         last = lastClause ts ls table G z;
         last-kind = middle-kind (z .middle);
-        last-within = record { premises-within = outer-within; conclusion-within = middle-within (z .middle) middle-is };
+        last-within = record { premises-within = outer-within; conclusion-within = middle-within (z .middle) (middle-is div (path-is G u v j)) };
         each = λ c m. go c (readA-mem ts ls table G z c m);
       }
     where
-      whole-is : IsPath G u v (z .before ++ (z .middle ++ z .after))
-      whole-is = subst (IsPath G u v) (sym (div .whole)) (path-is G u v j)
-
-      before-is : IsPath G u (div .first) (z .before)
-      before-is = stretch-is [] (z .before) (z .middle ++ z .after) whole-is (div .before-walk)
-
-      middle-is : IsPath G (div .first) (div .last) (z .middle)
-      middle-is = stretch-is (z .before) (z .middle) (z .after) whole-is (div .middle-walk)
-
-      after-is : IsPath G (div .last) v (z .after)
-      after-is = stretch-is (z .before ++ z .middle) (z .after) [] (subst (IsPath G u v) (sym (append-assoc (z .before) (z .middle) (z .after)) ∙ ap (λ (τ : Path). (z .before ++ z .middle) ++ τ) (sym (append-nil (z .after)))) whole-is) (div .after-walk)
-
       outer-within : (p : Pair) → List·Memᴰ p (outerPremises ts ls table G z) → PairWithin (length table) p
       outer-within p m =
-          ⊎-elim (λ k. premise-within ts ls table p sound before-is (premise-meaning table (length G) p (z .before) k))
-          (λ k. premise-within ts ls table p sound after-is (premise-meaning table (length G) p (z .after) k))
+          ⊎-elim (λ k. premise-within ts ls table p sound (before-is div (path-is G u v j)) (premise-meaning table (length G) p (z .before) k))
+          (λ k. premise-within ts ls table p sound (after-is div (path-is G u v j)) (premise-meaning table (length G) p (z .after) k))
           (outer-cases ts ls table G z m)
 
       outer-is : (p : Pair) → List·Memᴰ p (outerPremises ts ls table G z) → IsPath G (p .left) (p .right) (path G (p .left) (p .right))
       outer-is p m = path-is G (p .left) (p .right) (⊎-elim (λ k. premise-joined ts ls table (length G) p sound (div .before-walk) k) (λ k. premise-joined ts ls table (length G) p sound (div .after-walk) k) (outer-cases ts ls table G z m))
 
       go : (c : Clause) → ReadingA ts ls table G z c → OfPath table G c ⊎ (c ≡ lastClause ts ls table G z)
-      go c (of-middle k) = inl (listed-of-path ts ls table c sound middle-is k)
+      go c (of-middle k) = inl (listed-of-path ts ls table c sound (middle-is div (path-is G u v j)) k)
       go c (of-outer {p = p} k x) = inl (listed-of-path ts ls table c sound (outer-is p k) x)
       go c (of-last e) = inr e
 

@@ -1,7 +1,7 @@
 -- "let the middle stretch run from the first to the last B-colourable vertex on the path; outer stretches lie on both sides, and with no such vertex
 -- the whole path is outer": what `stretches` gives for a walk.
 use mathlib.Core.Bool.{Bool, true, false, cond, not}
-use mathlib.Core.List.{List, [], _∷_, _++_, List·Memᴰ, List·Memᴰ·not-nil, List·Memᴰ·cases-cons}
+use mathlib.Core.List.{List, [], _∷_, _++_, append-assoc, append-nil, List·Memᴰ, List·Memᴰ·not-nil, List·Memᴰ·cases-cons}
 use mathlib.Core.Logic.{_⊎_, inl, inr, ⊎-elim}
 use mathlib.Core.Path.{_≡_, refl, sym, ap, subst, _∙_}
 use Prim.Native.Nat.{ℕ}
@@ -9,7 +9,8 @@ use lib.Dec.{T}
 use Rattle.tables.specs.Words.{any}
 use Rattle.tables.proofs.Words.{or-cases, passes, fails, decide, some-any}
 use Rattle.closure.specs.Graph.{Graph, Hop, Path}
-use Rattle.closure.specs.Walks.{Walk, stay, hop}
+use Rattle.closure.specs.Walks.{Walk, stay, hop, IsPath}
+use Rattle.closure.proofs.Walking.OnePath.{stretch-is}
 use Rattle.clauses.specs.Clauses.{between, falsum, differs}
 use Rattle.clauses.specs.Reading.{Stretches, fromFirst, stretches, endOf, notMiddle}
 
@@ -97,6 +98,20 @@ module _ (inB : ℕ → Bool) (G : Graph) (v : ℕ) where
             after-outside = ih .after-outside;
             ends = ih .ends;
           }
+
+-- the stretches of a path are paths
+module _ {inB : ℕ → Bool} {G : Graph} {u v : ℕ} {π : Path} {z : Stretches} (div : Divided inB G u v π z) (p : IsPath G u v π) where
+  whole-is : IsPath G u v (z .before ++ (z .middle ++ z .after))
+  whole-is = subst (IsPath G u v) (sym (div .whole)) p
+
+  pub before-is : IsPath G u (div .first) (z .before)
+  before-is = stretch-is [] (z .before) (z .middle ++ z .after) whole-is (div .before-walk)
+
+  pub middle-is : IsPath G (div .first) (div .last) (z .middle)
+  middle-is = stretch-is (z .before) (z .middle) (z .after) whole-is (div .middle-walk)
+
+  pub after-is : IsPath G (div .last) v (z .after)
+  after-is = stretch-is (z .before ++ z .middle) (z .after) [] (subst (IsPath G u v) (sym (append-assoc (z .before) (z .middle) (z .after)) ∙ ap (λ (τ : Path). (z .before ++ z .middle) ++ τ) (sym (append-nil (z .after)))) whole-is) (div .after-walk)
 
 -- a walk ends where its hops do
 pub endOf-walk : {G : Graph} {u v : ℕ} {π : Path} → Walk G u v π → endOf u π ≡ v

@@ -11,14 +11,14 @@ use Rattle.tables.specs.declared.Tables.{Tables}
 use Rattle.tables.proofs.Words.{below-mem}
 use Rattle.tables.proofs.WordBytes.{getD-below}
 use Rattle.closure.specs.Steps.{tableOf}
-use Rattle.running.specs.Shown.{padded, rowFor}
+use Rattle.running.specs.Shown.{padded}
 use Rattle.running.specs.Keys.{noRow}
 use Rattle.running.specs.declared.Row.{Row}
 use Rattle.running.specs.declared.state.State.{State as Arrays}
 use Rattle.running.proofs.Showing.{shown-symbol, shown-arity, shown-row}
 use Rattle.demands.specs.Buffers.{termBytes}
 use Rattle.engine.specs.Ending.{Ends, termsIn, literalsIn, recordBytes}
-use Rattle.demands.proofs.AddedTerms.{argumentAt, addedBytes, laid, termBytes-laid}
+use Rattle.demands.proofs.AddedTerms.{addedBytes, laid, termBytes-laid}
 use Rattle.demands.proofs.Partition.{flatMap-of-map}
 use Rattle.engine.proofs.Writing.{flatMap-agree}
 use Rattle.engine.proofs.Searches.{count-is}

@@ -1,13 +1,12 @@
 -- Room and the bytes of a verdict: what the code compares is what the definitions compare, and what it writes is what they write.
 use mathlib.Core.Bool.{Bool, true, false, cond}
 use mathlib.Core.List.{List, map, flatMap}
-use mathlib.Core.Path.{_≡_, refl, sym, ap, ap₂, _∙_}
+use mathlib.Core.Path.{_≡_, sym, ap, ap₂, _∙_}
 use Prim.Native.Nat.{ℕ, _*_, _-_, _/_, _≤_, _<_}
 use native.Mathlib.Omega.{arith}
 use borrow.Author.Tests.{lt-ltb, le-ltb}
 use lib.ListN.{length, length-map}
 use Rattle.tables.specs.Terms.{Term}
-use Rattle.tables.specs.LiteralTable.{Literal}
 use Rattle.tables.specs.declared.Tables.{Tables}
 use Rattle.running.specs.declared.state.State.{State as Arrays}
 use Rattle.demands.specs.declared.Answer.the-variants.{Consistent, Inconsistent}

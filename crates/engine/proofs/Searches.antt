@@ -3,7 +3,7 @@ use mathlib.Core.Bool.{Bool, true, false, cond, not, _&&_}
 use mathlib.Core.List.{List, flatMap}
 use mathlib.Core.Option.{Option, some, none, Option·getD}
 use mathlib.Core.Path.{_≡_, refl, sym, ap, ap₂, _∙_}
-use Prim.Native.Nat.{ℕ, zero, suc, _≤_, _<_}
+use Prim.Native.Nat.{ℕ, zero, suc, _<_}
 use native.Mathlib.Omega.{arith}
 use lib.Dec.{eqb}
 use lib.ListN.{length, getD}
@@ -16,7 +16,7 @@ use Rattle.tables.specs.declared.Tables.{Tables}
 use Rattle.tables.proofs.Words.{below-mem}
 use Rattle.tables.proofs.Filled.{filled-at}
 use Rattle.tables.proofs.Sound.{length-termsOf}
-use Rattle.closure.specs.Graph.{Graph, label, joined}
+use Rattle.closure.specs.Graph.{label, joined}
 use Rattle.running.specs.declared.state.State.{State as Arrays}
 use Rattle.running.proofs.Beginning.{sound-tables, read-sound, terms-are, terms-fit}
 use Rattle.running.proofs.BasicSteps.{length-literals, left-is, right-is, kind-is, sides-small}

@@ -19,7 +19,7 @@ ghost use Rattle.running.specs.Opening.{ReadFrom};
 ghost use Rattle.running.specs.Stepping.{Ends as RunEnds};
 ghost use Rattle.clauses.specs.Reading.{critical as criticalIn};
 ghost use Rattle.demands.specs.Buffers.{partitionBytes, termBytes};
-ghost use Rattle.demands.specs.Call.{Returned, consistent as consistentBy, inconsistent as inconsistentBy, verdict as verdictBy, ended as endedBy};
+ghost use Rattle.demands.specs.Call.{consistent as consistentBy, inconsistent as inconsistentBy, verdict as verdictBy, ended as endedBy};
 ghost use Rattle.engine.specs.Ending.{Ends, Decides, termsIn, literalsIn, recordsFor};
 
 // No disequality has its sides joined: the partition, where it has room.

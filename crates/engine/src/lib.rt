@@ -14,7 +14,7 @@ use running::run;
 use tables::Check;
 ghost use mathlib.Core.Path.{_≡_};
 ghost use Rattle.demands.specs.Answers.{numbersOf};
-ghost use Rattle.demands.specs.Call.{Returned, judged};
+ghost use Rattle.demands.specs.Call.{judged};
 
 // Any two byte strings, judged: the answer, and every byte of the lent buffers, are those of the definition.
 pub fn split(

@@ -4,12 +4,11 @@ use super::graph::Graph;
 ghost use mathlib.Core.Path.{_≡_};
 ghost use mathlib.Core.List.{map};
 ghost use Prim.Native.Nat.{_≤_, _<_};
-ghost use lib.ListN.{getD};
 ghost use Rattle.tables.specs.Words.{below};
 ghost use Rattle.closure.specs.Graph.{label};
 ghost use Rattle.closure.specs.Forests.{EndsBelow};
 ghost use Rattle.graphs.specs.Layout.{edgesOf};
-ghost use Rattle.graphs.specs.Rooting.{RootedBy, Growing, Closed, grown};
+ghost use Rattle.graphs.specs.Rooting.{RootedBy, Growing, Closed};
 
 // rank is 0 where a vertex is not reached yet, 1 at a root, and one more than the neighbour's toward the root.
 pub struct Rooting {

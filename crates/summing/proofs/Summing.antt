@@ -1,6 +1,6 @@
 -- The records of a summary's clauses, from the pairs that its clauses conclude.
 use mathlib.Core.Bool.{Bool, true, false, cond, not}
-use mathlib.Core.List.{List, [], _∷_, _++_, map, flatMap, append-assoc, append-nil, List·Memᴰ, List·Memᴰ·head, List·Memᴰ·tail, List·Memᴰ·not-nil}
+use mathlib.Core.List.{List, [], _∷_, _++_, map, flatMap, append-nil, List·Memᴰ, List·Memᴰ·head, List·Memᴰ·tail, List·Memᴰ·not-nil}
 use mathlib.Core.Logic.{_⊎_, inl, inr, ⊎-elim, _↔_}
 use mathlib.Core.Path.{_≡_, refl, sym, ap, ap₂, subst, _∙_}
 use Prim.Native.Nat.{ℕ, _*_, _/_, _≤_, _<_}
@@ -18,11 +18,11 @@ use Rattle.tables.proofs.Words.{keep-mem, mem-keep, pairsBelow-mem, passed, fai
 use Rattle.closure.specs.Graph.{Graph, Path, joined, path}
 use Rattle.graphs.specs.declared.paths.Trail.{Trail}
 use Rattle.graphs.specs.Trails.{Joining, TrailOf}
-use Rattle.closure.specs.Walks.{Walk, hop, IsPath}
+use Rattle.closure.specs.Walks.{Walk, hop}
 use Rattle.closure.proofs.Walking.Walks.{path-walk, walk-joined, walk-hop}
 use Rattle.closure.proofs.Walking.Parents.{path-hop}
 use Rattle.closure.proofs.Walking.Invariant.{SoundGraph}
-use Rattle.closure.proofs.Walking.OnePath.{path-is, one-path, stretch-is}
+use Rattle.closure.proofs.Walking.OnePath.{path-is, one-path}
 use Rattle.closure.proofs.Walking.ParentPaths.{sound-forest}
 use Rattle.clauses.specs.Clauses.{between, Clause, equals, differs, falsum}
 use Rattle.clauses.specs.Premises.{premises, pathClauses}
@@ -35,7 +35,7 @@ use Rattle.summing.specs.Writing.{marked}
 use Rattle.summing.specs.Written.{clauseOf, clauseOut, RecordsPut, Readable, FirstB, LastB, Concluding, notAt, LastPut, Clear, ClausesPut, Asking, AskingSome, sideOf, AllPut, Summarised}
 use Rattle.clauses.proofs.Pieces.{equals-kind, middle-kind, endOf-none, endOf-hop, notMiddle-none, notMiddle-hop, stretches-none, first-none, first-some, records-standing, read-B, read-A}
 use Rattle.clauses.proofs.Meaning.{path-enough}
-use Rattle.clauses.proofs.Stretches.{Divided, stretches-divided}
+use Rattle.clauses.proofs.Stretches.{Divided, stretches-divided, before-is, middle-is, after-is}
 use Rattle.clauses.proofs.Interpolation.{lastClause, ReadingA, of-middle, of-outer, of-last, readA-mem, mem-readA}
 use Rattle.clauses.proofs.Order.{concludes-eq, eq-concludes, ascending-agree}
 use Rattle.clauses.proofs.OneClause.{OfPath, FromPaths, from-paths-premises, read-from-paths, listed-of-path, walk-enough, premise-within, premisesIn-mean, outerPremises-mean}
@@ -129,22 +129,6 @@ module _ (ts : List Term) (ls : List Literal) (table : List Term) (G : Graph) (s
       keep-none (λ c. isLast (c .conclusion)) (clausesIn ts ls table G (path G u v)) (λ c m. let o = listed-of-path ts ls table c s (path-is G u v j) m in failed (isLast (c .conclusion)) (not-T (isLast (c .conclusion)) (equals-kind (c .conclusion) (o .of) (o .concluded))))
 
   module _ (inB : ℕ → Bool) (z : Stretches) (div : Divided inB G u v (path G u v) z) where
-    -- the stretches are a path together
-    whole-is : IsPath G u v (z .before ++ (z .middle ++ z .after))
-    whole-is = subst (IsPath G u v) (sym (div .whole)) (path-is G u v j)
-
-    -- the stretch before is one
-    before-is : IsPath G u (div .first) (z .before)
-    before-is = stretch-is [] (z .before) (z .middle ++ z .after) whole-is (div .before-walk)
-
-    -- the middle one is
-    middle-is : IsPath G (div .first) (div .last) (z .middle)
-    middle-is = stretch-is (z .before) (z .middle) (z .after) whole-is (div .middle-walk)
-
-    -- the one after is
-    after-is : IsPath G (div .last) v (z .after)
-    after-is = stretch-is (z .before ++ z .middle) (z .after) [] (subst (IsPath G u v) (sym (append-assoc (z .before) (z .middle) (z .after)) ∙ ap (λ (τ : Path). (z .before ++ z .middle) ++ τ) (sym (append-nil (z .after)))) whole-is) (div .after-walk)
-
     -- what the stretches reach: the middle one with its own factors, the outer ones without
     abbrev pub Concluded : Pair → Type 0
     Concluded p = Reached table false p true (z .middle) ⊎ (Reached table false p false (z .before) ⊎ Reached table false p false (z .after))
@@ -153,8 +137,8 @@ module _ (ts : List Term) (ls : List Literal) (table : List Term) (G : Graph) (s
     outer-to : (p q : Pair) → List·Memᴰ q (outerPremises ts ls table G z) → (c : Clause) → List·Memᴰ c (pathClauses (length G) table (path G (q .left) (q .right))) → c .conclusion ≡ equals p → Concluded p
     outer-to p q k c m e =
         ⊎-elim
-        (λ x. let h = premise-joins ts ls table p G s u (div .first) (walk-joined (div .before-walk)) (one-path G (sound-forest ts ls table G s) before-is) x in inr (inl (premise-under ts ls table p G s u (div .first) (walk-joined (div .before-walk)) (one-path G (sound-forest ts ls table G s) before-is) x (conclusions-reached ts ls table p G s (q .left) (q .right) h refl (length G) (path-enough G (q .left) (q .right)) .0 (c, m, e)))))
-        (λ x. let h = premise-joins ts ls table p G s (div .last) v (walk-joined (div .after-walk)) (one-path G (sound-forest ts ls table G s) after-is) x in inr (inr (premise-under ts ls table p G s (div .last) v (walk-joined (div .after-walk)) (one-path G (sound-forest ts ls table G s) after-is) x (conclusions-reached ts ls table p G s (q .left) (q .right) h refl (length G) (path-enough G (q .left) (q .right)) .0 (c, m, e)))))
+        (λ x. let h = premise-joins ts ls table p G s u (div .first) (walk-joined (div .before-walk)) (one-path G (sound-forest ts ls table G s) (before-is div (path-is G u v j))) x in inr (inl (premise-under ts ls table p G s u (div .first) (walk-joined (div .before-walk)) (one-path G (sound-forest ts ls table G s) (before-is div (path-is G u v j))) x (conclusions-reached ts ls table p G s (q .left) (q .right) h refl (length G) (path-enough G (q .left) (q .right)) .0 (c, m, e)))))
+        (λ x. let h = premise-joins ts ls table p G s (div .last) v (walk-joined (div .after-walk)) (one-path G (sound-forest ts ls table G s) (after-is div (path-is G u v j))) x in inr (inr (premise-under ts ls table p G s (div .last) v (walk-joined (div .after-walk)) (one-path G (sound-forest ts ls table G s) (after-is div (path-is G u v j))) x (conclusions-reached ts ls table p G s (q .left) (q .right) h refl (length G) (path-enough G (q .left) (q .right)) .0 (c, m, e)))))
         (outerPremises-mean ts ls table G u v z div q .0 k)
 
     -- the clause that is read off an outer premise
@@ -168,7 +152,7 @@ module _ (ts : List Term) (ls : List Literal) (table : List Term) (G : Graph) (s
     conclusions-A p = (λ r. to (r .0) (r .2) (readA-mem ts ls table G z (r .0) (r .1)), from)
       where
         middles : ((c : Clause) × List·Memᴰ c (pathClauses (length G) table (z .middle)) × (c .conclusion ≡ equals p)) ↔ Reached table false p true (z .middle)
-        middles = conclusions-reached ts ls table p G s (div .first) (div .last) (walk-joined (div .middle-walk)) (one-path G (sound-forest ts ls table G s) middle-is) (length G) (walk-enough (div .middle-walk))
+        middles = conclusions-reached ts ls table p G s (div .first) (div .last) (walk-joined (div .middle-walk)) (one-path G (sound-forest ts ls table G s) (middle-is div (path-is G u v j))) (length G) (walk-enough (div .middle-walk))
 
         to : (c : Clause) → c .conclusion ≡ equals p → ReadingA ts ls table G z c → Concluded p
         to c e (of-middle m) = inl (middles .0 (c, m, e))
@@ -177,8 +161,8 @@ module _ (ts : List Term) (ls : List Literal) (table : List Term) (G : Graph) (s
 
         from : Concluded p → (c : Clause) × List·Memᴰ c (readA ts ls table G z) × (c .conclusion ≡ equals p)
         from (inl r) = let y = middles .1 r in (y .0, mem-readA ts ls table G z (y .0) (of-middle (y .1)), y .2)
-        from (inr (inl r)) = let y = under-premise ts ls table p G s u (div .first) (walk-joined (div .before-walk)) (one-path G (sound-forest ts ls table G s) before-is) r in outer-from p (y .0) (outerPremises-mean ts ls table G u v z div (y .0) .1 (inl (y .1))) (y .2 .0) (y .2 .1)
-        from (inr (inr r)) = let y = under-premise ts ls table p G s (div .last) v (walk-joined (div .after-walk)) (one-path G (sound-forest ts ls table G s) after-is) r in outer-from p (y .0) (outerPremises-mean ts ls table G u v z div (y .0) .1 (inr (y .1))) (y .2 .0) (y .2 .1)
+        from (inr (inl r)) = let y = under-premise ts ls table p G s u (div .first) (walk-joined (div .before-walk)) (one-path G (sound-forest ts ls table G s) (before-is div (path-is G u v j))) r in outer-from p (y .0) (outerPremises-mean ts ls table G u v z div (y .0) .1 (inl (y .1))) (y .2 .0) (y .2 .1)
+        from (inr (inr r)) = let y = under-premise ts ls table p G s (div .last) v (walk-joined (div .after-walk)) (one-path G (sound-forest ts ls table G s) (after-is div (path-is G u v j))) r in outer-from p (y .0) (outerPremises-mean ts ls table G u v z div (y .0) .1 (inr (y .1))) (y .2 .0) (y .2 .1)
 
     -- and the last clause stands alone
     pub lasts-A : firstAlone (keep (λ c. isLast (c .conclusion)) (readA ts ls table G z)) ≡ lastClause ts ls table G z ∷ []
@@ -188,9 +172,9 @@ module _ (ts : List Term) (ls : List Literal) (table : List Term) (G : Graph) (s
         none e = absurd (List·Memᴰ·not-nil (subst (List·Memᴰ (lastClause ts ls table G z)) e (mem-keep (λ (c : Clause). isLast (c .conclusion)) (mem-readA ts ls table G z (lastClause ts ls table G z) (of-last refl)) (middle-kind (z .middle)))))
 
         is : (c : Clause) → T (isLast (c .conclusion)) → ReadingA ts ls table G z c → c ≡ lastClause ts ls table G z
-        is c t (of-middle m) = let o = listed-of-path ts ls table c s middle-is m in absurd (equals-kind (c .conclusion) (o .of) (o .concluded) t)
+        is c t (of-middle m) = let o = listed-of-path ts ls table c s (middle-is div (path-is G u v j)) m in absurd (equals-kind (c .conclusion) (o .of) (o .concluded) t)
         is c t (of-outer {p = q} k m) =
-            let h = ⊎-elim (λ x. premise-joins ts ls table q G s u (div .first) (walk-joined (div .before-walk)) (one-path G (sound-forest ts ls table G s) before-is) x) (λ x. premise-joins ts ls table q G s (div .last) v (walk-joined (div .after-walk)) (one-path G (sound-forest ts ls table G s) after-is) x) (outerPremises-mean ts ls table G u v z div q .0 k) in
+            let h = ⊎-elim (λ x. premise-joins ts ls table q G s u (div .first) (walk-joined (div .before-walk)) (one-path G (sound-forest ts ls table G s) (before-is div (path-is G u v j))) x) (λ x. premise-joins ts ls table q G s (div .last) v (walk-joined (div .after-walk)) (one-path G (sound-forest ts ls table G s) (after-is div (path-is G u v j))) x) (outerPremises-mean ts ls table G u v z div q .0 k) in
             let o = listed-of-path ts ls table c s (path-is G (q .left) (q .right) h) m in
             absurd (equals-kind (c .conclusion) (o .of) (o .concluded) t)
         is c t (of-last e) = e
@@ -333,7 +317,7 @@ module _ (arrays : Drawing) (n : ℕ) (colours : List ℕ) (s t : ℕ) (ts : Lis
         let last = b .written ts ls table G (x .drawn) (cut .before) (cut .after) (λ h k. walk-hop (divided .before-walk) k) (λ h k. walk-hop (divided .after-walk) k) (q .0) (q .2) (outerPremises ts ls table G cut) (λ p. outerPremises-mean ts ls table G s t cut divided p) in (
           subst (λ (rs : List (List ℕ)). RecordsPut rs 0 out r′ out₂) (sym (records-A pairs rows small c))
               (records-append (flatMap (clauseOut n table G) (keep (marked pairs) (pairsBelow n))) (recordsOf lastHere) 0 out r out₁ r′ out₂ a (last .0)),
-          last .1 (λ p m. let within = ⊎-elim (premise-within ts ls table p (x .drawn .sound) (before-is ts ls table G (x .drawn .sound) s t (x .join) (colourable ts ls B table) cut divided)) (premise-within ts ls table p (x .drawn .sound) (after-is ts ls table G (x .drawn .sound) s t (x .join) (colourable ts ls B table) cut divided)) (outerPremises-mean ts ls table G s t cut divided p .0 m) in omega (arith, within .1, x .terms)),
+          last .1 (λ p m. let within = ⊎-elim (premise-within ts ls table p (x .drawn .sound) (before-is divided (path-is G s t (x .join)))) (premise-within ts ls table p (x .drawn .sound) (after-is divided (path-is G s t (x .join)))) (outerPremises-mean ts ls table G s t cut divided p .0 m) in omega (arith, within .1, x .terms)),
         )
 
 -- ---- what the writer asks

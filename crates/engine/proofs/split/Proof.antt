@@ -16,7 +16,7 @@ use Rattle.tables.specs.declared.Tables.{Tables}
 use Rattle.tables.proofs.Check.{the-type}
 use Rattle.running.specs.Opening.{ReadFrom}
 use Rattle.demands.specs.declared.Answer.{Answer}
-use Rattle.demands.specs.Call.{Buffers, Returned}
+use Rattle.demands.specs.Call.{Buffers}
 use Rattle.demands.proofs.Ways.{judged-refused, judged-ended}
 use borrow.Author.Needs.{needs}
 use Rattle.engine.proofs.split.Statement.{statement}

@@ -1,5 +1,5 @@
 -- `engine::answers::judge` meets its contract: each way goes on as the verdict does.
-use mathlib.Core.Path.{_≡_, sym, ap, _∙_}
+use mathlib.Core.Path.{sym, ap, _∙_}
 use Rattle.tables.specs.Checks.{foundOf}
 use Rattle.demands.specs.Call.{verdict}
 use Rattle.engine.specs.Ending.{termsIn, literalsIn}

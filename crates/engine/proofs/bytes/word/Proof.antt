@@ -1,5 +1,5 @@
 -- `engine::bytes::word` meets its contract. A number of sixteen bits has a high byte below 256.
-use mathlib.Core.List.{List, [], _∷_}
+use mathlib.Core.List.{[], _∷_}
 use mathlib.Core.Path.{_≡_, ap}
 use Prim.Native.Nat.{ℕ, _/_, _%_}
 use native.Mathlib.Omega.{arith}

@@ -1,12 +1,11 @@
 -- `engine::classes::write_partition` meets its contract. The invariant: the class numbers of the terms passed are written. The measure is what is left of them.
 use mathlib.Core.Bool.{Bool}
-use mathlib.Core.List.{List, _++_}
+use mathlib.Core.List.{List}
 use mathlib.Core.Path.{_≡_, refl, sym, ap, _∙_}
-use Prim.Native.Nat.{ℕ, _*_, _-_, _≤_}
+use Prim.Native.Nat.{ℕ, _-_, _≤_}
 use native.Mathlib.Omega.{arith}
-use lib.ListN.{length, take}
+use lib.ListN.{length}
 use Rattle.tables.specs.Bytes.{wordBytes}
-use Rattle.demands.specs.Buffers.{writtenOver}
 use Rattle.engine.specs.Ending.{classBy}
 use Rattle.engine.proofs.Writing.{Written, written-none, written-more, written-all}
 use Rattle.running.proofs.Beginning.{terms-fit}

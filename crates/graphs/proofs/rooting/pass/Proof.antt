@@ -1,12 +1,11 @@
 -- `graphs::rooting::pass` meets its contract: the edges looked at lead to nothing new, or something more was reached.
 use native.Mathlib.Omega.{arith}
-use mathlib.Core.Path.{_≡_, sym, subst}
-use Prim.Native.Nat.{ℕ, _+_, _≤_, _<_, _-_}
+use mathlib.Core.Path.{_≡_, subst}
+use Prim.Native.Nat.{ℕ, _≤_, _<_, _-_}
 use lib.ListN.{getD}
 use Rattle.closure.specs.Forests.{EndsBelow}
 use Rattle.graphs.specs.Layout.{noEdge, lastFirst, newestFirst, edgesOf}
 use Rattle.graphs.specs.Rooting.{Closed}
-use Rattle.graphs.specs.declared.rooting.Rooting.{Rooting}
 use Rattle.graphs.proofs.Rooted.{Passing, reached-within, ends-here, reach-left, reach-right, reach-none}
 use Rattle.graphs.proofs.rooting.pass.Statement.{statement}
 use Rattle.graphs.proofs.rooting.pass.Tie as tie
