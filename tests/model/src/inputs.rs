@@ -10,7 +10,10 @@ use crate::shapes::{middles, towers, unary_chain};
 use crate::soup::soup;
 
 /// How many tables of a run have a plan for certain.
-const PLANNED: u64 = 60;
+const PLANNED: u64 = 64;
+
+/// The numbers of the shapes with a plan are below this one.
+const SHAPES: usize = 8;
 
 pub struct Tables {
     pub terms: Vec<u8>,
@@ -49,9 +52,9 @@ fn idle_middle(mut draft: Draft) -> Draft {
 }
 
 /// Shapes with a plan, some with their literals in another order or their terms under other numbers.
-fn shaped(random: &mut Random) -> Draft {
+fn shaped(which: usize, random: &mut Random) -> Draft {
     let (one, two) = (random.pick(&[1, 2]), random.pick(&[1, 2]));
-    let draft = match random.below(8) {
+    let draft = match which {
         0 | 1 => towers(random.between(0, 127), random.between(1, 4), one, two),
         2 => unary_chain(random.between(2, 256), one, two),
         3 => middles(random.between(9, 256), random.between(2, 5)),
@@ -75,7 +78,7 @@ fn many_literals(random: &mut Random) -> Draft {
 /// A sound pair of tables. Large ones are rare, so that a run of a million has time for many small ones.
 fn sound(random: &mut Random) -> Draft {
     match random.below(1000) {
-        0..=4 => shaped(random),
+        0..=4 => shaped(random.below(SHAPES), random),
         5..=14 => grown_to(256, random),
         15..=18 => many_literals(random),
         19..=80 => grown_to(64, random),
@@ -89,7 +92,8 @@ fn sound(random: &mut Random) -> Draft {
 
 /// The tables with this number in a run. The first ones all have a plan, so that short runs meet every kind too.
 pub fn tables(index: u64, random: &mut Random) -> Tables {
-    let draft = if index < PLANNED { shaped(random) } else { sound(random) };
+    let planned = index < PLANNED;
+    let draft = if planned { shaped(index as usize % SHAPES, random) } else { sound(random) };
     let mut tables = Tables::of(&draft);
     if random.percent(15) {
         damage(&mut tables.terms, &mut tables.literals, random);
