@@ -17,7 +17,7 @@ use Rattle.running.specs.declared.Row.{Row}
 use Rattle.running.specs.declared.state.State.{State as Arrays}
 use Rattle.running.proofs.Showing.{shown-symbol, shown-arity, shown-row}
 use Rattle.demands.specs.Buffers.{termBytes}
-use Rattle.engine.specs.Ending.{Ends, termsIn, literalsIn, recordBytes}
+use Rattle.engine.specs.Ending.{Ends, termsIn, literalsIn, recordBytes, recordIn}
 use Rattle.demands.proofs.AddedTerms.{addedBytes, laid, termBytes-laid}
 use Rattle.demands.proofs.Partition.{flatMap-of-map}
 use Rattle.engine.proofs.Writing.{flatMap-agree}
@@ -45,10 +45,6 @@ unfolding recordBytes laid
 record-term m =
     (λ i. laid (m .symbol) (length (m .arguments)) (padded-at (m .arguments) 0 i) (padded-at (m .arguments) 1 i) (padded-at (m .arguments) 2 i) (padded-at (m .arguments) 3 i)) ∙
     sym (termBytes-laid m)
-
--- the record of the term at a place behind the given ones, as the code makes it
-abbrev pub recordIn : ℕ → List ℕ → List ℕ → List Row → ℕ → List ℕ
-recordIn given symbols arities rows k = recordBytes (getD symbols (given + k) 0) (getD arities (given + k) 0) (getD rows (given + k) noRow .args)
 
 module _ (t : Tables) (s : Arrays) (w : Ends t s) where
   abbrev ts : List Term

@@ -1,23 +1,23 @@
 -- Room and the bytes of a verdict: what the code compares is what the definitions compare, and what it writes is what they write.
 use mathlib.Core.Bool.{Bool, true, false, cond}
 use mathlib.Core.List.{List, map, flatMap}
-use mathlib.Core.Path.{_≡_, sym, ap, ap₂, _∙_}
+use mathlib.Core.Path.{_≡_, refl, sym, ap, ap₂, _∙_}
 use Prim.Native.Nat.{ℕ, _*_, _-_, _/_, _≤_, _<_}
 use native.Mathlib.Omega.{arith}
 use borrow.Author.Tests.{lt-ltb, le-ltb}
 use lib.ListN.{length, length-map}
+use Rattle.tables.specs.Bytes.{wordBytes}
 use Rattle.tables.specs.Terms.{Term}
 use Rattle.tables.specs.declared.Tables.{Tables}
 use Rattle.running.specs.declared.state.State.{State as Arrays}
 use Rattle.demands.specs.declared.Answer.the-variants.{Consistent, Inconsistent}
-use Rattle.demands.specs.Buffers.{partitionBytes, termBytes, writtenOver, tooShort}
+use Rattle.demands.specs.Buffers.{termBytes, writtenOver, tooShort}
 use Rattle.demands.specs.Call.{Buffers, Returned, refused, consistent, inconsistent}
-use Rattle.engine.specs.Ending.{Ends, Decides, termsIn, literalsIn, recordsFor}
-use Rattle.demands.proofs.Partition.{partition-length}
+use Rattle.engine.specs.Ending.{Decides, termsIn, literalsIn, recordsFor, classBy, classBytes, recordsBytes}
 use Rattle.demands.proofs.AddedTerms.{addedBytes, addedBytes-length}
 use Rattle.demands.proofs.Ways.{clauses-length}
-use Rattle.engine.proofs.Searches.{count-is}
-use Rattle.engine.proofs.AddedRecords.{all-terms}
+use Rattle.engine.proofs.Writing.{length-first}
+use Rattle.engine.proofs.AddedRecords.{all-terms, records-are}
 
 -- a buffer that is shorter than the bytes, and one that is not
 short : (bytes buffer : List ℕ) → length buffer < length bytes → tooShort bytes buffer ≡ true
@@ -28,26 +28,26 @@ room : (bytes buffer : List ℕ) → length bytes ≤ length buffer → tooShort
 unfolding tooShort
 room bytes buffer h = le-ltb (length buffer) (length bytes) h
 
-module _ (t : Tables) (s : Arrays) (w : Ends t s) (bs : Buffers) where
+module _ (used : List Bool) (labels : List ℕ) (n : ℕ) (bs : Buffers) where
   abbrev classes : List ℕ
-  classes = partitionBytes (termsIn (w .from)) (literalsIn (w .from)) (w .state .graph)
+  classes = classBytes used labels n
 
   -- the bytes of the partition
-  classes-length : length classes ≡ 2 * t .terms
-  classes-length = partition-length (termsIn (w .from)) (literalsIn (w .from)) (w .state .graph) ∙ ap (λ (n : ℕ). 2 * n) (sym (count-is t s w))
+  classes-length : length classes ≡ 2 * n
+  classes-length = length-first 2 (λ k. wordBytes (classBy used labels n k)) (λ k. refl) n
 
   -- a consistent verdict returns this where there is room
   abbrev withClasses : List ℕ → Returned
   withClasses out = record { answer = Consistent; buffers = record { partition = out; added = bs .added; clauses = bs .clauses } }
 
   -- the partition has no room
-  pub consistent-short : length (bs .partition) < 2 * t .terms → refused bs 7 0 ≡ consistent bs classes
+  pub consistent-short : length (bs .partition) < 2 * n → refused bs 7 0 ≡ consistent bs classes
   unfolding consistent
   consistent-short h =
       sym (ap (λ (b : Bool). cond b (refused bs 7 0) (withClasses (writtenOver classes (bs .partition)))) (short classes (bs .partition) (omega (arith, classes-length))))
 
   -- it has room, and is written
-  pub consistent-room : 2 * t .terms ≤ length (bs .partition) → (out : List ℕ) → out ≡ writtenOver classes (bs .partition) → withClasses out ≡ consistent bs classes
+  pub consistent-room : 2 * n ≤ length (bs .partition) → (out : List ℕ) → out ≡ writtenOver classes (bs .partition) → withClasses out ≡ consistent bs classes
   unfolding consistent
   consistent-room h out e =
       ap withClasses e ∙
@@ -97,9 +97,10 @@ module _ (t : Tables) (s : Arrays) (d : ℕ) (w : Decides t s d) (bs : Buffers) 
       sym (ap₂ tested (room terms (bs .added) (omega (arith, terms-length))) (short clauses (bs .clauses) (omega (arith, records-length))))
 
   -- both have room, and are written
-  pub both-room : 16 * (s .terms - t .terms) ≤ length (bs .added) → (count : ℕ) → count ≡ length (recordsFor w) → count ≤ length (bs .clauses) / 8 → (out-added out-clauses : List ℕ) → out-added ≡ writtenOver terms (bs .added) → out-clauses ≡ writtenOver clauses (bs .clauses) → withBoth (s .terms - t .terms) count out-added out-clauses ≡ inconsistent bs d (map termBytes ms) (recordsFor w)
+  pub both-room : 16 * (s .terms - t .terms) ≤ length (bs .added) → (count : ℕ) → count ≡ length (recordsFor w) → count ≤ length (bs .clauses) / 8 → (out-added out-clauses : List ℕ) → out-added ≡ writtenOver (recordsBytes (t .terms) (s .terms - t .terms) (s .symbols) (s .arities) (s .rows)) (bs .added) → out-clauses ≡ writtenOver clauses (bs .clauses) → withBoth (s .terms - t .terms) count out-added out-clauses ≡ inconsistent bs d (map termBytes ms) (recordsFor w)
   unfolding inconsistent
   both-room g count e h out-added out-clauses p q =
       let added : s .terms - t .terms ≡ length (map termBytes ms) = added-count ∙ sym (length-map ms termBytes) in
-      (λ i. withBoth (added i) (e i) (p i) (q i)) ∙
+      let written : out-added ≡ writtenOver terms (bs .added) = p ∙ ap (λ (bytes : List ℕ). writtenOver bytes (bs .added)) (records-are t s (w .ends)) in
+      (λ i. withBoth (added i) (e i) (written i) (q i)) ∙
       sym (ap₂ tested (room terms (bs .added) (omega (arith, terms-length))) (room clauses (bs .clauses) (omega (arith, records-length))))

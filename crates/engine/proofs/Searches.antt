@@ -24,7 +24,7 @@ use Rattle.running.proofs.Showing.{shown-label}
 use Rattle.clauses.specs.Reading.{contradicted, critical}
 use Rattle.demands.specs.Buffers.{classNumber, partitionBytes}
 use Rattle.engine.proofs.Writing.{flatMap-agree}
-use Rattle.engine.specs.Ending.{Ends, termsIn, literalsIn, classBy}
+use Rattle.engine.specs.Ending.{Ends, termsIn, literalsIn, metBy, classBy}
 
 -- two tests that agree below n have one first number there
 pub firstBelow-agree : (p q : ℕ → Bool) (n : ℕ) → ((k : ℕ) → k < n → p k ≡ q k) → firstBelow p n ≡ firstBelow q n
@@ -32,9 +32,9 @@ unfolding firstBelow
 firstBelow-agree p q zero f = refl
 firstBelow-agree p q (suc n) f = ap₂ (λ (o : Option ℕ) (b : Bool). orElse o (cond b (some n) none)) (firstBelow-agree p q n (λ k h. f k (omega arith))) (f n (omega arith))
 
--- the test that the code makes of a record: its kind is not 1, and its sides have one label
-abbrev pub metIn : Tables → List ℕ → ℕ → Bool
-metIn t labels i = not (eqb (getD (t .kinds) i 0) 1) && eqb (getD labels (getD (t .lefts) i 0) 0) (getD labels (getD (t .rights) i 0) 0)
+-- the test that the code makes of a record
+abbrev metIn : Tables → List ℕ → ℕ → Bool
+metIn t labels = metBy (t .kinds) (t .lefts) (t .rights) labels
 
 module _ (t : Tables) (s : Arrays) (w : Ends t s) where
   -- the label of a term is in its place

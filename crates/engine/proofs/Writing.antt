@@ -58,7 +58,7 @@ unfolding writtenOver flatMap below
 written-none f buffer = refl
 
 -- the first i records, of one size, have so many bytes
-length-first : (size : ℕ) (f : ℕ → List ℕ) → ((k : ℕ) → length (f k) ≡ size) → (i : ℕ) → length (flatMap f (below i)) ≡ size * i
+pub length-first : (size : ℕ) (f : ℕ → List ℕ) → ((k : ℕ) → length (f k) ≡ size) → (i : ℕ) → length (flatMap f (below i)) ≡ size * i
 length-first size f sized i = records-length size f (below i) (λ k m. sized k) ∙ ap (λ (k : ℕ). size * k) (length-below i)
 
 -- the next record is written at its place

@@ -1,12 +1,12 @@
 -- What the verdict is read off: tables that no row of the checks refuses, and the arrays of the last state of the library's own run over them.
-use mathlib.Core.Bool.{Bool, false, cond, _&&_}
+use mathlib.Core.Bool.{Bool, false, cond, not, _&&_}
 use mathlib.Core.List.{List, [], _∷_, _++_, flatMap}
 use mathlib.Core.Option.{some, Option·getD}
 use mathlib.Core.Path.{_≡_}
-use Prim.Native.Nat.{ℕ, _*_, _/_, _%_, _≤_, _<_}
+use Prim.Native.Nat.{ℕ, _+_, _*_, _/_, _%_, _≤_, _<_}
 use lib.Dec.{eqb}
 use lib.ListN.{length, getD}
-use Rattle.tables.specs.Words.{firstBelow}
+use Rattle.tables.specs.Words.{below, firstBelow}
 use Rattle.tables.specs.Bytes.{wordBytes}
 use Rattle.tables.specs.Terms.{Term}
 use Rattle.tables.specs.TermTable.{termsOf}
@@ -62,11 +62,23 @@ pub record Written (rs : List (List ℕ)) (buffer : List ℕ) (count : ℕ) (out
   pub bytes : 8 * length rs ≤ length buffer → out ≡ writtenOver (flatMap (λ r. r) rs) buffer
   pub kept : length buffer < 8 * length rs → out ≡ buffer
 
+-- the sides of the first n records have a label
+abbrev pub SidesLabelled : List ℕ → List ℕ → ℕ → Type 0
+SidesLabelled lefts rights n = (i : ℕ) → i < n → (getD lefts i 0 < 511) × (getD rights i 0 < 511)
+
+-- the test of a record by the columns and the labels: its kind is not 1, and its sides have one label
+abbrev pub metBy : List ℕ → List ℕ → List ℕ → List ℕ → ℕ → Bool
+metBy kinds lefts rights labels i = not (eqb (getD kinds i 0) 1) && eqb (getD labels (getD lefts i 0) 0) (getD labels (getD rights i 0) 0)
+
 -- a class number by the marks of the terms in use and the labels of all terms, among the first n terms
 unfoldable pub classBy : List Bool → List ℕ → ℕ → ℕ → ℕ
 classBy used labels n t =
     let lowest = Option·getD (firstBelow (λ u. getD used u false && eqb (getD labels u 0) (getD labels t 0)) n) 65535 in
     cond (getD used t false) lowest 65535
+
+-- the class numbers of the first n terms, two bytes each
+abbrev pub classBytes : List Bool → List ℕ → ℕ → List ℕ
+classBytes used labels n = flatMap (λ k. wordBytes (classBy used labels n k)) (below n)
 
 -- "Term record, 16 bytes", by its fields
 unfoldable pub recordBytes : ℕ → ℕ → List ℕ → List ℕ
@@ -74,6 +86,14 @@ recordBytes symbol arity row =
     wordBytes symbol ++ (arity ∷ 0 ∷ []) ++
     (wordBytes (getD row 0 0) ++ wordBytes (getD row 1 0) ++ wordBytes (getD row 2 0) ++ wordBytes (getD row 3 0)) ++
     (0 ∷ 0 ∷ 0 ∷ 0 ∷ [])
+
+-- the record of the term at a place behind the given ones
+abbrev pub recordIn : ℕ → List ℕ → List ℕ → List Row → ℕ → List ℕ
+recordIn given symbols arities rows k = recordBytes (getD symbols (given + k) 0) (getD arities (given + k) 0) (getD rows (given + k) noRow .args)
+
+-- and of all of them
+abbrev pub recordsBytes : ℕ → ℕ → List ℕ → List ℕ → List Row → List ℕ
+recordsBytes given count symbols arities rows = flatMap (recordIn given symbols arities rows) (below count)
 
 -- the fields of the rows stand one behind the other, four for each row
 pub record FlatRows (rows : List Row) (args : List ℕ) : Type 0 where

@@ -2,14 +2,11 @@
 
 use super::bytes;
 use running::Row;
-use running::state::State;
-use tables::Tables;
-ghost use mathlib.Core.List.{map, flatMap};
 ghost use mathlib.Core.Path.{_≡_};
-ghost use Prim.Native.Nat.{_*_, _-_, _≤_};
+ghost use Prim.Native.Nat.{_+_, _*_, _≤_};
 ghost use lib.ListN.{length};
-ghost use Rattle.demands.specs.Buffers.{termBytes, writtenOver};
-ghost use Rattle.engine.specs.Ending.{Ends, recordBytes};
+ghost use Rattle.demands.specs.Buffers.{writtenOver};
+ghost use Rattle.engine.specs.Ending.{recordBytes, recordsBytes};
 
 // "Term record, 16 bytes": the symbol, the arity, the arguments, and zeros.
 pub fn term_record(symbol: u16, arity: u8, row: Row) -> [u8; 16]
@@ -42,15 +39,17 @@ pub fn term_record(symbol: u16, arity: u8, row: Row) -> [u8; 16]
 }
 
 // "the added terms (16 bytes each, numbered on from n in order of adding)"; the bytes past them stay.
-pub fn write_added(t: Tables, st: State, added: &mut [u8])
-    requires { ⌜ Ends t st × (16 * (st .terms - t .terms) ≤ length (now added)) ⌝ }
-    ensures { λ _. ⌜ ((w : Ends t st) → now (added .exit) ≡ writtenOver (flatMap (λ r. r) (map termBytes (w .state .added))) (now (added .entry))) ⌝ }
+pub fn write_added<'a>(
+    symbols: &'a [u16; 511],
+    arities: &'a [u8; 511],
+    rows: [Row; 511],
+    given: usize,
+    count: usize,
+    added: &mut [u8],
+)
+    requires { ⌜ (given + count ≤ 511) × (16 * count ≤ length (now added)) ⌝ }
+    ensures { λ _. ⌜ now (added .exit) ≡ writtenOver (recordsBytes given count (now (symbols .entry)) (now (arities .entry)) rows) (now (added .entry)) ⌝ }
 {
-    let given = t.terms;
-    let count = st.terms - given;
-    let symbols = st.symbols;
-    let arities = st.arities;
-    let rows = st.rows;
     let mut i = 0;
     while i < count {
         let v = given + i;

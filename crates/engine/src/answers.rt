@@ -11,29 +11,28 @@ use tables::Found;
 use tables::Tables;
 ghost use mathlib.Core.List.{List, map};
 ghost use mathlib.Core.Path.{_≡_};
-ghost use Prim.Native.Nat.{ℕ};
+ghost use Prim.Native.Nat.{ℕ, _≤_};
 ghost use Rattle.tables.specs.LiteralTable.{literalsOf};
 ghost use Rattle.tables.specs.TermTable.{termsOf};
 ghost use Rattle.closure.specs.OwnRun.{ownRun};
 ghost use Rattle.running.specs.Opening.{ReadFrom};
 ghost use Rattle.running.specs.Stepping.{Ends as RunEnds};
-ghost use Rattle.clauses.specs.Reading.{critical as criticalIn};
-ghost use Rattle.demands.specs.Buffers.{partitionBytes, termBytes};
-ghost use Rattle.demands.specs.Call.{consistent as consistentBy, inconsistent as inconsistentBy, verdict as verdictBy, ended as endedBy};
-ghost use Rattle.engine.specs.Ending.{Ends, Decides, termsIn, literalsIn, recordsFor};
+ghost use Rattle.demands.specs.Buffers.{termBytes};
+ghost use Rattle.demands.specs.Call.{consistent as consistentBy, inconsistent as inconsistentBy, ended as endedBy};
+ghost use Rattle.engine.specs.Ending.{Decides, termsIn, literalsIn, recordsFor, classBytes};
 
 // No disequality has its sides joined: the partition, where it has room.
-fn consistent(t: Tables, st: State, partition: &mut [u8]) -> Answer
-    requires { ⌜ Ends t st ⌝ }
-    ensures { λ r. ⌜ ((w : Ends t st) (added clauses : List ℕ) → record { answer = r; buffers = record { partition = now (partition .exit); added = added; clauses = clauses } } ≡ consistentBy (record { partition = now (partition .entry); added = added; clauses = clauses }) (partitionBytes (termsIn (w .from)) (literalsIn (w .from)) (w .state .graph))) ⌝ }
+fn consistent(used: &[bool; 256], labels: &[u16; 511], n: usize, partition: &mut [u8]) -> Answer
+    requires { ⌜ n ≤ 256 ⌝ }
+    ensures { λ r. ⌜ ((added clauses : List ℕ) → record { answer = r; buffers = record { partition = now (partition .exit); added = added; clauses = clauses } } ≡ consistentBy (record { partition = now (partition .entry); added = added; clauses = clauses }) (classBytes (now (used .entry)) (now (labels .entry)) n)) ⌝ }
 {
-    if partition.len() < 2 * t.terms {
+    if partition.len() < 2 * n {
         return Answer::Refused {
             number: 7,
             place: 0,
         };
     }
-    classes::write_partition(t, st, partition);
+    classes::write_partition(used, labels, n, partition);
     Answer::Consistent
 }
 
@@ -57,7 +56,8 @@ fn inconsistent(t: Tables, st: State, d: usize, added: &mut [u8], clauses: &mut 
             place: 2,
         };
     }
-    added::write_added(t, st, added);
+    let rows = st.rows;
+    added::write_added(&st.symbols, &st.arities, rows, t.terms, count, added);
     Answer::Inconsistent {
         disequality: d,
         added: count,
@@ -65,19 +65,7 @@ fn inconsistent(t: Tables, st: State, d: usize, added: &mut [u8], clauses: &mut 
     }
 }
 
-// "The critical disequality is the lowest record of kind 2 whose sides are joined when no step is left. None: consistent."
-fn judge(t: Tables, st: State, partition: &mut [u8], added: &mut [u8], clauses: &mut [u8]) -> Answer
-    requires { ⌜ Ends t st ⌝ }
-    ensures { λ r. ⌜ ((w : Ends t st) → record { answer = r; buffers = record { partition = now (partition .exit); added = now (added .exit); clauses = now (clauses .exit) } } ≡ verdictBy (record { partition = now (partition .entry); added = now (added .entry); clauses = now (clauses .entry) }) (termsIn (w .from)) (literalsIn (w .from)) (w .state) (criticalIn (literalsIn (w .from)) (w .state .graph))) ⌝ }
-{
-    let found = verdict::critical(t, st);
-    match found {
-        Found::At(d) => inconsistent(t, st, d, added, clauses),
-        Found::Nothing => consistent(t, st, partition),
-    }
-}
-
-// Row 8 stands before row 7.
+// Row 8 stands before row 7. "The critical disequality is the lowest record of kind 2 whose sides are joined when no step is left. None: consistent."
 pub fn ended(
     t: Tables,
     end: Stepped,
@@ -95,5 +83,9 @@ pub fn ended(
         };
     }
     let st = end.state;
-    judge(t, st, partition, added, clauses)
+    let found = verdict::critical(t.literals, &t.kinds, &t.lefts, &t.rights, &st.labels);
+    match found {
+        Found::At(d) => inconsistent(t, st, d, added, clauses),
+        Found::Nothing => consistent(&t.used, &st.labels, t.terms, partition),
+    }
 }

@@ -1,13 +1,11 @@
 // The consistent answer: a class number for each given term.
 
 use super::bytes;
-use running::state::State;
-use tables::Tables;
 ghost use mathlib.Core.Path.{_≡_};
 ghost use Prim.Native.Nat.{_*_, _≤_, _<_};
 ghost use lib.ListN.{length};
-ghost use Rattle.demands.specs.Buffers.{partitionBytes, writtenOver};
-ghost use Rattle.engine.specs.Ending.{Ends, termsIn, literalsIn, classBy};
+ghost use Rattle.demands.specs.Buffers.{writtenOver};
+ghost use Rattle.engine.specs.Ending.{classBy, classBytes};
 
 // "the lowest number of a given term in its class; a term not in use gets 65535"
 pub fn class_number(used: &[bool; 256], labels: &[u16; 511], n: usize, t: usize) -> u16
@@ -29,16 +27,13 @@ pub fn class_number(used: &[bool; 256], labels: &[u16; 511], n: usize, t: usize)
 }
 
 // "the partition buffer's first 2n bytes hold, for each of the n terms" its class number; the bytes past them stay.
-pub fn write_partition(t: Tables, st: State, partition: &mut [u8])
-    requires { ⌜ Ends t st × (2 * t .terms ≤ length (now partition)) ⌝ }
-    ensures { λ _. ⌜ ((w : Ends t st) → now (partition .exit) ≡ writtenOver (partitionBytes (termsIn (w .from)) (literalsIn (w .from)) (w .state .graph)) (now (partition .entry))) ⌝ }
+pub fn write_partition(used: &[bool; 256], labels: &[u16; 511], n: usize, partition: &mut [u8])
+    requires { ⌜ (n ≤ 256) × (2 * n ≤ length (now partition)) ⌝ }
+    ensures { λ _. ⌜ now (partition .exit) ≡ writtenOver (classBytes (now (used .entry)) (now (labels .entry)) n) (now (partition .entry)) ⌝ }
 {
-    let n = t.terms;
-    let used = t.used;
-    let labels = st.labels;
     let mut i = 0;
     while i < n {
-        let class = bytes::word(class_number(&used, &labels, n, i));
+        let class = bytes::word(class_number(used, labels, n, i));
         bytes::put(&class, 2 * i, partition);
         i += 1;
     }

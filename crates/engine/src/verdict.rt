@@ -1,27 +1,30 @@
 // What a run's last state says: the critical disequality, or none. And the answer where a row of the checks refuses.
 
 use demands::Answer;
-use running::state::State;
 use tables::Check;
 use tables::Found;
-use tables::Tables;
 ghost use mathlib.Core.Path.{_≡_};
+ghost use Prim.Native.Nat.{_≤_};
+ghost use Rattle.tables.specs.Words.{firstBelow};
 ghost use Rattle.tables.specs.Checks.{foundOf, numberOf, placeIn};
-ghost use Rattle.clauses.specs.Reading.{critical as criticalIn};
-ghost use Rattle.engine.specs.Ending.{Ends, literalsIn};
+ghost use Rattle.engine.specs.Ending.{SidesLabelled, metBy};
 
 // "the lowest record of kind 2 whose sides are joined when no step is left": sides are joined where they have one label.
-pub fn critical(t: Tables, st: State) -> Found
-    requires { ⌜ Ends t st ⌝ }
-    ensures { λ r. ⌜ ((w : Ends t st) → foundOf r ≡ criticalIn (literalsIn (w .from)) (w .state .graph)) ⌝ }
+pub fn critical<'a>(
+    literals: usize,
+    kinds: &'a [u8; 1024],
+    lefts: &'a [u16; 1024],
+    rights: &'a [u16; 1024],
+    labels: &'a [u16; 511],
+) -> Found
+    requires { ⌜ (literals ≤ 1024) × SidesLabelled (now lefts) (now rights) literals ⌝ }
+    ensures { λ r. ⌜ foundOf r ≡ firstBelow (metBy (now (kinds .entry)) (now (lefts .entry)) (now (rights .entry)) (now (labels .entry))) literals ⌝ }
 {
-    let count = t.literals;
-    let labels = st.labels;
     let mut i = 0;
-    while i < count {
-        let left = t.lefts[i];
-        let right = t.rights[i];
-        if (t.kinds[i] != 1) & (labels[left as usize] == labels[right as usize]) {
+    while i < literals {
+        let left = lefts[i] as usize;
+        let right = rights[i] as usize;
+        if (kinds[i] != 1) & (labels[left] == labels[right]) {
             return Found::At(i);
         }
         i += 1;

@@ -1,50 +1,41 @@
 -- `engine::added::write_added` meets its contract. The invariant: the records of the terms passed are written. The measure is what is left of them.
 use mathlib.Core.Path.{_≡_, refl, sym, ap, _∙_}
-use Prim.Native.Nat.{_+_, _-_, _≤_, _<_}
+use Prim.Native.Nat.{_-_, _≤_}
 use native.Mathlib.Omega.{arith}
 use lib.ListN.{length}
-use Rattle.engine.specs.Ending.{recordBytes}
+use Rattle.engine.specs.Ending.{recordBytes, recordIn}
 use Rattle.engine.proofs.Writing.{Written, written-none, written-more, written-all}
-use Rattle.engine.proofs.AddedRecords.{recordIn, all-terms, all-fit, records-are}
+use borrow.Author.Needs.{needs}
 use Rattle.engine.proofs.added.write_added.Statement.{statement}
 use Rattle.engine.proofs.added.write_added.Tie as tie
 
 abbrev Inv-loop : tie.InvT-loop
-Inv-loop added₀ given count symbols arities rows i₀ added i =
+Inv-loop symbols arities given count added₀ rows i₀ added i =
     (i ≤ count) × (length added ≡ length added₀) × Written (recordIn given symbols arities rows) i added₀ added
 
 abbrev μ-loop : tie.MeasureT-loop
-μ-loop added₀ given count symbols arities rows i₀ added i = count - i
-
-sub-count : tie.Need-sub-count Inv-loop μ-loop
-sub-count c = omega (arith, all-terms _ _ (c .before .before .pre .0))
+μ-loop symbols arities given count added₀ rows i₀ added i = count - i
 
 loop-holds : tie.Need-loop-holds Inv-loop μ-loop
 loop-holds c = (omega arith, refl, written-none _ _)
 
--- a turn's term is in the arrays
-within : (c : tie.In-loop Inv-loop μ-loop) → c .before .before .before .before .before .before .before .args .t .terms + c .before .loop .i < 511
-within c =
-    let w = c .before .before .before .before .before .before .before .pre .0 in
-    omega (arith, all-terms _ _ w, all-fit _ _ w, c .loop-test .taken)
-
 add-v : tie.Need-add-v Inv-loop μ-loop
-add-v c = omega (arith, within c)
+add-v c = search needs
 
 mul-term-record : tie.Need-mul-term-record Inv-loop μ-loop
-mul-term-record c = omega (arith, within c)
+mul-term-record c = search needs
 
-array-read-term-record : tie.Need-array-read-term-record Inv-loop μ-loop
-array-read-term-record c = omega (arith, within c)
+element-copy-out-term-record : tie.Need-element-copy-out-term-record Inv-loop μ-loop
+element-copy-out-term-record c = search needs
 
-array-read-term-record-2 : tie.Need-array-read-term-record-2 Inv-loop μ-loop
-array-read-term-record-2 c = omega (arith, within c)
+element-copy-out-term-record-2 : tie.Need-element-copy-out-term-record-2 Inv-loop μ-loop
+element-copy-out-term-record-2 c = search needs
 
 mul-term-record-2 : tie.Need-mul-term-record-2 Inv-loop μ-loop
-mul-term-record-2 c = omega (arith, within c)
+mul-term-record-2 c = search needs
 
 array-copy-out-term-record : tie.Need-array-copy-out-term-record Inv-loop μ-loop
-array-copy-out-term-record c = omega (arith, within c)
+array-copy-out-term-record c = search needs
 
 term-record-requires : tie.Need-term-record-requires Inv-loop μ-loop
 term-record-requires c κs = tt
@@ -54,14 +45,14 @@ unfolding recordBytes
 slice-aggregate-put c = sym (ap length (c .before .term-record .ensures))
 
 mul-put : tie.Need-mul-put Inv-loop μ-loop
-mul-put c = omega (arith, within (c .before .before .before))
+mul-put c = omega arith
 
 put-requires : tie.Need-put-requires Inv-loop μ-loop
 unfolding recordBytes
-put-requires c κs = omega (arith, ap length (c .before .before .term-record .ensures), c .before .before .before .before .before .before .before .before .before .before .before .pre .1)
+put-requires c κs = omega (arith, ap length (c .before .before .term-record .ensures), c .before .before .before .before .before .before .before .before .before .pre .1)
 
 add-i : tie.Need-add-i Inv-loop μ-loop
-add-i c = omega (arith, within (c .before .before .before .before .before .before .before))
+add-i c = omega arith
 
 loop-less : tie.Need-loop-less Inv-loop μ-loop
 loop-less c = omega arith
@@ -69,7 +60,7 @@ loop-less c = omega arith
 loop-again : tie.Need-loop-again Inv-loop μ-loop
 unfolding recordBytes
 loop-again c =
-    let inv = c .before .before .before .before .before .before .before .before .loop .inv in
+    let inv = c .before .before .before .before .before .before .before .before .before .before .loop .inv in
     let recorded = c .before .before .before .before .before in (
       omega arith,
       c .before .before .put .kept .1 .1 .0 ∙ inv .1,
@@ -80,7 +71,7 @@ same-length : tie.Need-same-length Inv-loop μ-loop
 same-length c = c .before .loop .inv .1
 
 returns : tie.Need-returns Inv-loop μ-loop
-returns c w = written-all _ _ _ _ _ _ (c .before .loop .inv .2) (c .before .loop .inv .0) (c .loop-test .left) (records-are _ _ w)
+returns c = written-all _ _ _ _ _ _ (c .before .loop .inv .2) (c .before .loop .inv .0) (c .loop-test .left) refl
 
 pub write-added-spec : {M : Type 1} → statement M
 write-added-spec =
@@ -88,12 +79,11 @@ write-added-spec =
     (tie.spec
     Inv-loop
     μ-loop
-    sub-count
     loop-holds
     add-v
     mul-term-record
-    array-read-term-record
-    array-read-term-record-2
+    element-copy-out-term-record
+    element-copy-out-term-record-2
     mul-term-record-2
     array-copy-out-term-record
     term-record-requires

@@ -1,10 +1,11 @@
--- `engine::answers::ended` meets its contract: a stuck run is row 8, and any other goes on to the verdict.
+-- `engine::answers::ended` meets its contract: a stuck run is row 8, and of any other the verdict is read off, each way going on as the definition does.
 use mathlib.Core.Bool.{true, false}
 use mathlib.Core.Logic.{⊎-elim}
 use mathlib.Core.Option.{some, none}
 use mathlib.Core.Path.{_≡_, sym, ap, _∙_}
 use Prim.Native.Nat.{ℕ}
 use native.Mathlib.Omega.{arith}
+use Rattle.tables.specs.Checks.{foundOf}
 use Rattle.tables.specs.declared.Tables.{Tables}
 use Rattle.closure.specs.Steps.{State}
 use Rattle.running.specs.Shown.{Shows}
@@ -12,8 +13,11 @@ use Rattle.closure.specs.OwnRun.{ownRun}
 use Rattle.running.specs.Opening.{ReadFrom}
 use Rattle.running.specs.Stepping.{Ends as RunEnds}
 use Rattle.running.specs.declared.state.Stepped.{Stepped}
-use Rattle.demands.specs.Call.{ended}
+use Rattle.demands.specs.Call.{consistent, verdict, ended}
 use Rattle.engine.specs.Ending.{Ends, termsIn, literalsIn}
+use Rattle.running.proofs.Beginning.{terms-fit}
+use Rattle.running.proofs.BasicSteps.{literals-fit, sides-small}
+use Rattle.engine.proofs.Searches.{met-first, classes-are}
 use borrow.Author.Needs.{needs}
 use Rattle.engine.proofs.answers.ended.Statement.{statement}
 use Rattle.engine.proofs.answers.ended.Tie as tie
@@ -34,8 +38,24 @@ returns : tie.Need-returns
 unfolding ended
 returns c from outcome = sym (ap (ended _ (termsIn from) (literalsIn from)) (stuck-none _ _ from outcome (c .if1 .taken)))
 
-judge-requires : tie.Need-judge-requires
-judge-requires c κs = ends-of _ (c .before .before .before .before .before .before .before .before .args .end) (c .before .before .before .before .before .before .before .before .pre .0) (c .before .before .before .before .before .before .before .before .pre .1) (c .before .before .before .before .if1 .left)
+critical-requires : tie.Need-critical-requires
+critical-requires c κs =
+    let from = c .before .before .before .before .before .before .before .before .before .before .before .pre .0 in
+    (literals-fit _ from, λ i h. let small = sides-small _ from i h in (omega (arith, small .0), omega (arith, small .1)))
+
+enum-known-found : tie.Need-enum-known-found
+enum-known-found c = search needs
+
+inconsistent-requires : tie.Need-inconsistent-requires
+inconsistent-requires c κs =
+    let w = ends-of _ (c .before .before .before .before .before .before .before .before .before .before .before .before .before .before .before .before .before .args .end) (c .before .before .before .before .before .before .before .before .before .before .before .before .before .before .before .before .before .pre .0) (c .before .before .before .before .before .before .before .before .before .before .before .before .before .before .before .before .before .pre .1) (c .before .before .before .before .before .before .before .before .before .before .before .before .before .if1 .left) in
+    record { ends = w; found = sym (c .before .before .before .before .before .critical .ensures ∙ met-first _ _ w) ∙ ap foundOf (c .before .before .before .found .given .1) }
+
+enum-told : tie.Need-enum-told
+enum-told c = search needs
+
+consistent-requires : tie.Need-consistent-requires
+consistent-requires c κs = terms-fit _ (c .before .before .before .before .before .before .before .before .before .before .before .before .before .before .before .before .before .before .before .pre .0)
 
 same-length : tie.Need-same-length
 same-length c = search needs
@@ -43,15 +63,41 @@ same-length c = search needs
 same-length-2 : tie.Need-same-length-2
 same-length-2 c = search needs
 
+returns-2 : tie.Need-returns-2
+unfolding ended verdict
+returns-2 c from outcome =
+    let w = ends-of _ (c .before .before .before .before .before .before .before .before .before .before .before .before .before .before .before .before .before .before .before .before .before .before .args .end) from outcome (c .before .before .before .before .before .before .before .before .before .before .before .before .before .before .before .before .before .before .if1 .left) in
+    let decided = sym (c .before .before .before .before .before .before .before .before .before .before .critical .ensures ∙ met-first _ _ w) ∙ ap foundOf (c .before .before .before .before .before .before .before .before .found .given .1) in
+    c .before .before .before .before .inconsistent .ensures (record { ends = w; found = decided }) _ ∙
+    sym (ap (verdict _ (termsIn from) (literalsIn from) (w .state)) decided) ∙
+    sym (ap (ended _ (termsIn from) (literalsIn from)) (w .last))
+
 same-length-3 : tie.Need-same-length-3
 same-length-3 c = search needs
 
-returns-2 : tie.Need-returns-2
-unfolding ended
-returns-2 c from outcome =
-    let w = ends-of _ (c .before .before .before .before .before .before .before .before .before .before .before .before .before .before .before .args .end) from outcome (c .before .before .before .before .before .before .before .before .before .before .before .if1 .left) in
-    c .before .before .before .before .before .before .judge .ensures w ∙ sym (ap (ended _ (termsIn from) (literalsIn from)) (w .last))
+returns-3 : tie.Need-returns-3
+unfolding ended verdict
+returns-3 c from outcome =
+    let w = ends-of _ (c .before .before .before .before .before .before .before .before .before .before .before .before .before .before .before .before .before .before .before .before .before .before .args .end) from outcome (c .before .before .before .before .before .before .before .before .before .before .before .before .before .before .before .before .before .before .if1 .left) in
+    let none-met = sym (c .before .before .before .before .before .before .before .before .before .before .critical .ensures ∙ met-first _ _ w) ∙ ap foundOf (c .before .before .before .before .before .before .before .before .enum-told .given .1) in
+    let a = c .before .before .before .before .before .before .before .before .before .before .before .before .before .before .before .before .before .before .before .before .before .before .args in
+    c .before .before .consistent .ensures (a .added .now) (a .clauses .now) ∙
+    ap (consistent (record { partition = a .partition .now; added = a .added .now; clauses = a .clauses .now })) (classes-are _ _ w) ∙
+    sym (ap (verdict _ (termsIn from) (literalsIn from) (w .state)) none-met) ∙
+    sym (ap (ended _ (termsIn from) (literalsIn from)) (w .last))
 
 pub ended-spec : {M : Type 1} → statement M
 ended-spec =
-    tie.close (tie.spec returns judge-requires same-length same-length-2 same-length-3 returns-2)
+    tie.close
+    (tie.spec
+    returns
+    critical-requires
+    enum-known-found
+    inconsistent-requires
+    enum-told
+    consistent-requires
+    same-length
+    same-length-2
+    returns-2
+    same-length-3
+    returns-3)

@@ -1,13 +1,13 @@
 -- `engine::answers::inconsistent` meets its contract.
 use native.Mathlib.Omega.{arith}
-use Rattle.engine.proofs.AddedRecords.{all-terms}
+use Rattle.engine.proofs.AddedRecords.{all-terms, all-fit}
 use Rattle.engine.proofs.Answering.{added-short, clauses-short, both-room}
 use borrow.Author.Needs.{needs}
 use Rattle.engine.proofs.answers.inconsistent.Statement.{statement}
 use Rattle.engine.proofs.answers.inconsistent.Tie as tie
 
 sub-count : tie.Need-sub-count
-sub-count c = omega (arith, all-terms _ _ (c .before .before .before .before .pre .ends))
+sub-count c = omega (arith, all-terms _ _ (c .before .before .before .pre .ends))
 
 mul-if1 : tie.Need-mul-if1
 mul-if1 c = search needs
@@ -28,7 +28,9 @@ returns-2 c w partition =
     (written .kept (omega (arith, written .counted, c .if2 .taken)))
 
 write-added-requires : tie.Need-write-added-requires
-write-added-requires c κs = search needs
+write-added-requires c κs =
+    let w = c .before .before .before .before .before .before .before .before .before .before .before .before .before .before .pre .ends in
+    (omega (arith, all-terms _ _ w, all-fit _ _ w), c .before .before .before .before .before .before .before .before .before .before .if1 .left)
 
 same-length-2 : tie.Need-same-length-2
 same-length-2 c = search needs
@@ -38,10 +40,10 @@ same-length-3 c = search needs
 
 returns-3 : tie.Need-returns-3
 returns-3 c w partition =
-    let written = c .before .before .before .before .before .before .before .clause-records .ensures w in
-    both-room _ _ _ w (record { partition = partition; added = _; clauses = _ }) (c .before .before .before .before .before .before .before .before .before .if1 .left) _ (written .counted) (c .before .before .before .before .if2 .left) _ _
-    (c .before .before .write-added .ensures (w .ends))
-    (written .bytes (omega (arith, written .counted, c .before .before .before .before .if2 .left)))
+    let written = c .before .before .before .before .before .before .before .before .before .before .before .clause-records .ensures w in
+    both-room _ _ _ w (record { partition = partition; added = _; clauses = _ }) (c .before .before .before .before .before .before .before .before .before .before .before .before .before .if1 .left) _ (written .counted) (c .before .before .before .before .before .before .before .before .if2 .left) _ _
+    (c .before .before .write-added .ensures)
+    (written .bytes (omega (arith, written .counted, c .before .before .before .before .before .before .before .before .if2 .left)))
 
 pub inconsistent-spec : {M : Type 1} → statement M
 inconsistent-spec =

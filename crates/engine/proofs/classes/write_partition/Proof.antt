@@ -8,8 +8,7 @@ use lib.ListN.{length}
 use Rattle.tables.specs.Bytes.{wordBytes}
 use Rattle.engine.specs.Ending.{classBy}
 use Rattle.engine.proofs.Writing.{Written, written-none, written-more, written-all}
-use Rattle.running.proofs.Beginning.{terms-fit}
-use Rattle.engine.proofs.Searches.{classes-are}
+use borrow.Author.Needs.{needs}
 use Rattle.engine.proofs.classes.write_partition.Statement.{statement}
 use Rattle.engine.proofs.classes.write_partition.Tie as tie
 
@@ -18,17 +17,17 @@ abbrev classWord : List Bool → List ℕ → ℕ → ℕ → List ℕ
 classWord used labels n k = wordBytes (classBy used labels n k)
 
 abbrev Inv-loop : tie.InvT-loop
-Inv-loop partition₀ n used labels i₀ partition i =
+Inv-loop used labels n partition₀ i₀ partition i =
     (i ≤ n) × (length partition ≡ length partition₀) × Written (classWord used labels n) i partition₀ partition
 
 abbrev μ-loop : tie.MeasureT-loop
-μ-loop partition₀ n used labels i₀ partition i = n - i
+μ-loop used labels n partition₀ i₀ partition i = n - i
 
 loop-holds : tie.Need-loop-holds Inv-loop μ-loop
 loop-holds c = (omega arith, refl, written-none _ _)
 
 class-number-requires : tie.Need-class-number-requires Inv-loop μ-loop
-class-number-requires c κs = (terms-fit _ (c .before .before .before .before .before .before .before .pre .0 .from), omega arith)
+class-number-requires c κs = search needs
 
 word-requires : tie.Need-word-requires Inv-loop μ-loop
 word-requires c κs = tt
@@ -37,10 +36,10 @@ slice-aggregate-put : tie.Need-slice-aggregate-put Inv-loop μ-loop
 slice-aggregate-put c = sym (ap length (c .before .word .ensures))
 
 mul-put : tie.Need-mul-put Inv-loop μ-loop
-mul-put c = omega (arith, terms-fit _ (c .before .before .before .before .before .before .before .before .before .before .pre .0 .from))
+mul-put c = omega arith
 
 put-requires : tie.Need-put-requires Inv-loop μ-loop
-put-requires c κs = omega (arith, ap length (c .before .before .word .ensures), c .before .before .before .before .before .before .before .before .before .before .before .pre .1)
+put-requires c κs = omega (arith, ap length (c .before .before .word .ensures), c .before .before .before .before .before .before .before .pre .1)
 
 add-i : tie.Need-add-i Inv-loop μ-loop
 add-i c = omega arith
@@ -50,7 +49,7 @@ loop-less c = omega arith
 
 loop-again : tie.Need-loop-again Inv-loop μ-loop
 loop-again c =
-    let at-loop = c .before .before .before .before .before .before .before .before .before .before in
+    let at-loop = c .before .before .before .before .before .before .before .before in
     let worded = c .before .before .before .before .before in (
       omega arith,
       c .before .before .put .kept .1 .1 .0 ∙ at-loop .loop .inv .1,
@@ -61,7 +60,7 @@ same-length : tie.Need-same-length Inv-loop μ-loop
 same-length c = c .before .loop .inv .1
 
 returns : tie.Need-returns Inv-loop μ-loop
-returns c w = written-all _ _ _ _ _ _ (c .before .loop .inv .2) (omega arith) (omega arith) (classes-are _ _ w)
+returns c = written-all _ _ _ _ _ _ (c .before .loop .inv .2) (omega arith) (omega arith) refl
 
 pub write-partition-spec : {M : Type 1} → statement M
 write-partition-spec =
