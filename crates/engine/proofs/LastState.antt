@@ -55,7 +55,7 @@ on-run {t} w =
     }
 
 -- the arrays that are laid out of a state hold its graph and its terms
-pub drawn-of : {t : Tables} {s : Arrays} (w : Ends t s) (args toward by rank : List ℕ) (c : Columns) → FlatRows (s .rows) args → RootedBy (edgesOf (s .graph)) toward by rank → Each (EdgeAt (c .lefts) (c .rights) (c .inb) (c .derived)) (edgesOf (s .graph)) → Drawn (drawing args (s .arities) toward by rank (c .lefts) (c .rights) (c .inb) (c .derived) (s .graph .count)) (termsIn (w .from)) (literalsIn (w .from)) (tableOf (termsIn (w .from)) (w .state)) (w .state .graph)
+pub drawn-of : {t : Tables} {s : Arrays} (w : Ends t s) (args toward by rank : List ℕ) (c : Columns) → FlatRows (s .terms) (s .rows) args → RootedBy (edgesOf (s .graph)) toward by rank → Each (EdgeAt (c .lefts) (c .rights) (c .inb) (c .derived)) (edgesOf (s .graph)) → Drawn (drawing args (s .arities) toward by rank (c .lefts) (c .rights) (c .inb) (c .derived) (s .graph .count)) (termsIn (w .from)) (literalsIn (w .from)) (tableOf (termsIn (w .from)) (w .state)) (w .state .graph)
 drawn-of {t} {s} w args toward by rank c flat rooted laid =
     let ts = termsIn (w .from) in
     let ls = literalsIn (w .from) in

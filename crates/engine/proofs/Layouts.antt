@@ -20,7 +20,7 @@ use Rattle.engine.proofs.AddedRecords.{padded-at}
 abbrev pub fieldIn : List Row → ℕ → ℕ
 fieldIn rows k = getD (getD rows (k / 4) noRow .args) (k % 4) 0
 
-module _ (ts : List Term) (ls : List Literal) (st : State) (s : Arrays) (h : Shows ts ls st s) (args : List ℕ) (flat : FlatRows (s .rows) args) where
+module _ (ts : List Term) (ls : List Literal) (st : State) (s : Arrays) (h : Shows ts ls st s) (args : List ℕ) (flat : FlatRows (s .terms) (s .rows) args) where
   -- a term's arguments stand in its four places
   pub arguments-flat : (v : ℕ) → v < length (tableOf ts st) → length (termAt (tableOf ts st) v .arguments) ≤ 4 → termAt (tableOf ts st) v .arguments ≡ take (getD (s .arities) v 0) (drop (4 * v) args)
   arguments-flat v l few =
@@ -31,7 +31,7 @@ module _ (ts : List Term) (ls : List Literal) (st : State) (s : Arrays) (h : Sho
       let in-row : (4 * v + i) / 4 ≡ v = omega arith in
       let in-field : (4 * v + i) % 4 ≡ i = omega arith in
       sym
-      (getD-take n (drop (4 * v) args) i 0 (omega arith) ∙ getD-drop (4 * v) args i 0 ∙ flat .at (4 * v + i) (omega (arith, h .within)) ∙
+      (getD-take n (drop (4 * v) args) i 0 (omega arith) ∙ getD-drop (4 * v) args i 0 ∙ flat .at (4 * v + i) (omega (arith, h .terms)) ∙
       ap₂ (λ (a b : ℕ). getD (getD (s .rows) a noRow .args) b 0) in-row in-field ∙
       ap (λ (r : Row). getD (r .args) i 0) (shown-row ts ls st s h v l) ∙
       padded-at xs i) in

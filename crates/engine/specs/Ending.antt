@@ -95,7 +95,7 @@ recordIn given symbols arities rows k = recordBytes (getD symbols (given + k) 0)
 abbrev pub recordsBytes : ℕ → ℕ → List ℕ → List ℕ → List Row → List ℕ
 recordsBytes given count symbols arities rows = flatMap (recordIn given symbols arities rows) (below count)
 
--- the fields of the rows stand one behind the other, four for each row
-pub record FlatRows (rows : List Row) (args : List ℕ) : Type 0 where
+-- the fields of the first n rows stand one behind the other, four for each row
+pub record FlatRows (n : ℕ) (rows : List Row) (args : List ℕ) : Type 0 where
   pub long : length args ≡ 2044
-  pub at : (k : ℕ) → k < 2044 → getD args k 0 ≡ getD (getD rows (k / 4) noRow .args) (k % 4) 0
+  pub at : (k : ℕ) → k < 4 * n → getD args k 0 ≡ getD (getD rows (k / 4) noRow .args) (k % 4) 0

@@ -20,13 +20,15 @@ pub fn laid_out(graph: Graph) -> Columns
     edges::columns_of(&records, count)
 }
 
-// The rows of four, one behind the other.
-pub fn flat(rows: [Row; 511]) -> [u16; 2044]
-    ensures { λ r. ⌜ FlatRows rows r ⌝ }
+// The rows of four of the first so many terms, one behind the other.
+pub fn flat(rows: [Row; 511], terms: usize) -> [u16; 2044]
+    requires { ⌜ terms ≤ 511 ⌝ }
+    ensures { λ r. ⌜ FlatRows terms rows r ⌝ }
 {
     let mut args = [0u16; 2044];
+    let fields = 4 * terms;
     let mut k = 0;
-    while k < 2044 {
+    while k < fields {
         let of = rows[k / 4];
         let row = of.args;
         args[k] = row[k % 4];

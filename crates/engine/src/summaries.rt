@@ -25,7 +25,7 @@ fn drawn(st: State) -> Drawing
     let inb = edges.inb;
     let derived = edges.derived;
     let rows = st.rows;
-    let args = forest::flat(rows);
+    let args = forest::flat(rows, st.terms);
     let arities = st.arities;
     let count = graph.count;
     Drawing {

@@ -8,13 +8,16 @@ use Rattle.engine.proofs.forest.flat.Statement.{statement}
 use Rattle.engine.proofs.forest.flat.Tie as tie
 
 abbrev Inv-loop : tie.InvT-loop
-Inv-loop rows args₀ k₀ args k = (k ≤ 2044) × Filled 0 2044 (fieldIn rows) k args
+Inv-loop terms rows args₀ fields k₀ args k = (fields ≤ 2044) × (k ≤ fields) × Filled 0 2044 (fieldIn rows) k args
 
 abbrev μ-loop : tie.MeasureT-loop
-μ-loop rows args₀ k₀ args k = 2044 - k
+μ-loop terms rows args₀ fields k₀ args k = fields - k
+
+mul-fields : tie.Need-mul-fields Inv-loop μ-loop
+mul-fields c = omega arith
 
 loop-holds : tie.Need-loop-holds Inv-loop μ-loop
-loop-holds c = (omega arith, filled-none 0 2044 _)
+loop-holds c = (omega arith, omega arith, filled-none 0 2044 _)
 
 mul-of : tie.Need-mul-of Inv-loop μ-loop
 mul-of c = omega arith
@@ -41,11 +44,11 @@ loop-less : tie.Need-loop-less Inv-loop μ-loop
 loop-less c = omega arith
 
 loop-again : tie.Need-loop-again Inv-loop μ-loop
-loop-again c = (omega arith, filled-more 0 2044 _ _ _ _ (c .before .before .loop-test .taken) (c .before .before .before .loop .inv .1) refl)
+loop-again c = (omega arith, omega arith, filled-more 0 2044 _ _ _ _ (omega (arith, c .before .before .loop-test .taken)) (c .before .before .before .loop .inv .2) refl)
 
 returns : tie.Need-returns Inv-loop μ-loop
 returns c =
-    let inv = c .before .loop .inv .1 in
+    let inv = c .before .loop .inv .2 in
     record { long = inv .long; at = λ k h. inv .at k (omega (arith, c .loop-test .left)) }
 
 pub flat-spec : {M : Type 1} → statement M
@@ -54,6 +57,7 @@ flat-spec =
     (tie.spec
     Inv-loop
     μ-loop
+    mul-fields
     loop-holds
     mul-of
     array-copy-out-of
