@@ -227,13 +227,13 @@ closed-more es i rank c f b h k = go (subst (λ (n : ℕ). HopOf h (newestFirst 
     go (earlier m) = c h m
 
 -- what holds in a pass when the first i edges have been looked at
-pub record Passing (G : Graph) (es : List Edge) (start r : Rooting) (i : ℕ) : Type 0 where
+pub record Passing (G : Graph) (es : List Edge) (start : ℕ) (r : Rooting) (i : ℕ) : Type 0 where
   pub growing : Growing G r
-  pub more : start .reached ≤ r .reached
-  pub closed : r .reached ≡ start .reached → Closed (newestFirst i es) (r .rank)
+  pub more : start ≤ r .reached
+  pub closed : r .reached ≡ start → Closed (newestFirst i es) (r .rank)
 
 -- the next edge: where just one end is reached, the other is reached from it
-module _ (es : List Edge) (n : ℕ) {start r : Rooting} {i : ℕ} (p : Passing (newestFirst n es) es start r i) (h : i < n) (ends : EndsBelow 511 (newestFirst n es)) where
+module _ (es : List Edge) (n : ℕ) {start : ℕ} {r : Rooting} {i : ℕ} (p : Passing (newestFirst n es) es start r i) (h : i < n) (ends : EndsBelow 511 (newestFirst n es)) where
   -- its ends are vertices
   pub ends-here : (getD es i noEdge .left < 511) × (getD es i noEdge .right < 511)
   ends-here = each-by (λ G e. (e .left < 511) × (e .right < 511)) es i n h ends

@@ -39,6 +39,10 @@ positives [] = 0
 positives (zero ∷ xs) = positives xs
 positives (suc x ∷ xs) = suc (positives xs)
 
+-- the arrays, lent one by one, and how many vertices are reached
+abbrev pub rooting : List ℕ → List ℕ → List ℕ → ℕ → Rooting
+rooting toward by rank reached = record { toward = toward; by = by; rank = rank; reached = reached }
+
 -- What holds while vertices are still to be reached: a vertex whose rank is not 0 is a root or has its edge, and all roots are reached.
 pub record Growing (G : Graph) (r : Rooting) : Type 0 where
   pub long : (length (r .toward) ≡ 511) × (length (r .by) ≡ 511) × (length (r .rank) ≡ 511)

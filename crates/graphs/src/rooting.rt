@@ -8,7 +8,7 @@ ghost use Rattle.tables.specs.Words.{below};
 ghost use Rattle.closure.specs.Graph.{label};
 ghost use Rattle.closure.specs.Forests.{EndsBelow};
 ghost use Rattle.graphs.specs.Layout.{edgesOf};
-ghost use Rattle.graphs.specs.Rooting.{RootedBy, Growing, Closed};
+ghost use Rattle.graphs.specs.Rooting.{RootedBy, rooting, Growing, Closed};
 
 // rank is 0 where a vertex is not reached yet, 1 at a root, and one more than the neighbour's toward the root.
 pub struct Rooting {
@@ -40,40 +40,46 @@ fn roots(labels: &[u16; 511]) -> Rooting
     }
 }
 
-// One pass over the edges: where one end is reached and the other is not, the other is reached by this edge. The arrays are written in place: a copy
-// of them for each vertex would be most of the time.
-fn pass(graph: Graph, start: Rooting) -> Rooting
-    requires { ⌜ (graph .count ≤ 510) × EndsBelow 511 (edgesOf graph) × Growing (edgesOf graph) start ⌝ }
-    ensures { λ r. ⌜ Growing (edgesOf graph) r × (start .reached ≤ r .reached) × (r .reached ≡ start .reached → Closed (edgesOf graph) (r .rank)) ⌝ }
+// One pass over the edges: where one end is reached and the other is not, the other is reached by this edge. The arrays are written in place, for a
+// copy of them would be most of the time; how many vertices are reached comes back.
+fn pass(
+    graph: Graph,
+    toward: &mut [u16; 511],
+    by: &mut [u16; 511],
+    rank: &mut [u16; 511],
+    start: usize,
+) -> usize
+    requires { ⌜ (graph .count ≤ 510) × EndsBelow 511 (edgesOf graph) × Growing (edgesOf graph) (rooting (now toward) (now by) (now rank) start) ⌝ }
+    ensures { λ r. ⌜ Growing (edgesOf graph) (rooting (now (toward .exit)) (now (by .exit)) (now (rank .exit)) r) × (start ≤ r) × (r ≡ start → Closed (edgesOf graph) (now (rank .exit))) ⌝ }
 {
-    let mut r = start;
     let count = graph.count;
+    let mut reached = start;
     let mut i = 0;
     while i < count {
         let e = graph.edges[i];
         let left = e.left;
         let right = e.right;
-        let l = r.rank[left as usize];
-        let k = r.rank[right as usize];
+        let l = rank[left as usize];
+        let k = rank[right as usize];
         let edge = i as u16;
         i += 1;
         if l == 0 {
             if k != 0 {
-                r.toward[left as usize] = right;
-                r.by[left as usize] = edge;
-                r.rank[left as usize] = k + 1;
-                r.reached += 1;
+                toward[left as usize] = right;
+                by[left as usize] = edge;
+                rank[left as usize] = k + 1;
+                reached += 1;
             }
         } else {
             if k == 0 {
-                r.toward[right as usize] = left;
-                r.by[right as usize] = edge;
-                r.rank[right as usize] = l + 1;
-                r.reached += 1;
+                toward[right as usize] = left;
+                by[right as usize] = edge;
+                rank[right as usize] = l + 1;
+                reached += 1;
             }
         }
     }
-    r
+    reached
 }
 
 // Passes until one reaches nothing more.
@@ -81,12 +87,21 @@ pub fn rooted(graph: Graph, labels: &[u16; 511]) -> Rooting
     requires { ⌜ (graph .count ≤ 510) × EndsBelow 511 (edgesOf graph) × (now labels ≡ map (label (edgesOf graph)) (below 511)) ⌝ }
     ensures { λ r. ⌜ RootedBy (edgesOf graph) (r .toward) (r .by) (r .rank) ⌝ }
 {
-    let mut r = roots(labels);
+    let start = roots(labels);
+    let mut toward = start.toward;
+    let mut by = start.by;
+    let mut rank = start.rank;
+    let mut reached = start.reached;
     loop {
-        let next = pass(graph, r);
-        if next.reached == r.reached {
-            return next;
+        let next = pass(graph, &mut toward, &mut by, &mut rank, reached);
+        if next == reached {
+            return Rooting {
+                toward,
+                by,
+                rank,
+                reached,
+            };
         }
-        r = next;
+        reached = next;
     }
 }

@@ -5,16 +5,17 @@ use Prim.Native.Nat.{ℕ, _≤_, _<_, _-_}
 use lib.ListN.{getD}
 use Rattle.closure.specs.Forests.{EndsBelow}
 use Rattle.graphs.specs.Layout.{noEdge, lastFirst, newestFirst, edgesOf}
-use Rattle.graphs.specs.Rooting.{Closed}
+use Rattle.graphs.specs.Rooting.{rooting, Closed}
 use Rattle.graphs.proofs.Rooted.{Passing, reached-within, ends-here, reach-left, reach-right, reach-none}
 use Rattle.graphs.proofs.rooting.pass.Statement.{statement}
 use Rattle.graphs.proofs.rooting.pass.Tie as tie
 
 abbrev Inv-loop : tie.InvT-loop
-Inv-loop graph r₀ count i₀ r i = (i ≤ count) × Passing (newestFirst (graph .count) (graph .edges)) (graph .edges) r₀ r i
+Inv-loop toward₀ by₀ rank₀ start graph count reached₀ i₀ toward by rank reached i =
+    (i ≤ count) × Passing (newestFirst (graph .count) (graph .edges)) (graph .edges) start (rooting toward by rank reached) i
 
 abbrev μ-loop : tie.MeasureT-loop
-μ-loop graph r₀ count i₀ r i = count - i
+μ-loop toward₀ by₀ rank₀ start graph count reached₀ i₀ toward by rank reached i = count - i
 
 -- both ends of every edge are vertices
 ends : (c : tie.In-loop Inv-loop μ-loop) → EndsBelow 511 (newestFirst (c .before .before .args .t1 .count) (c .before .before .args .t1 .edges))
@@ -26,7 +27,7 @@ here : (c : tie.In-loop Inv-loop μ-loop) → (getD (c .before .before .args .t1
 here c = ends-here (c .before .before .args .t1 .edges) (c .before .before .args .t1 .count) (c .before .loop .inv .1) (c .loop-test .taken) (ends c)
 
 -- no rank is above 511
-low : (c : tie.In-loop Inv-loop μ-loop) (v : ℕ) → v < 511 → getD (c .before .loop .r .rank) v 0 ≤ 511
+low : (c : tie.In-loop Inv-loop μ-loop) (v : ℕ) → v < 511 → getD (c .before .loop .rank) v 0 ≤ 511
 low c v h = omega (arith, c .before .loop .inv .1 .growing .bounded v h, reached-within (c .before .loop .inv .1 .growing))
 
 loop-holds : tie.Need-loop-holds Inv-loop μ-loop
@@ -63,38 +64,38 @@ cast-edge c = omega arith
 add-i : tie.Need-add-i Inv-loop μ-loop
 add-i c = omega arith
 
-cast-r : tie.Need-cast-r Inv-loop μ-loop
-cast-r c = omega (arith, here (c .before .before .before .before .before) .0)
+cast-toward : tie.Need-cast-toward Inv-loop μ-loop
+cast-toward c = omega (arith, here (c .before .before .before .before .before) .0)
 
-mul-r : tie.Need-mul-r Inv-loop μ-loop
-mul-r c = omega (arith, here (c .before .before .before .before .before) .0)
+mul-toward : tie.Need-mul-toward Inv-loop μ-loop
+mul-toward c = omega (arith, here (c .before .before .before .before .before) .0)
 
-element-write-r : tie.Need-element-write-r Inv-loop μ-loop
-element-write-r c = here (c .before .before .before .before .before) .0
+element-write-toward : tie.Need-element-write-toward Inv-loop μ-loop
+element-write-toward c = here (c .before .before .before .before .before) .0
 
-cast-r-2 : tie.Need-cast-r-2 Inv-loop μ-loop
-cast-r-2 c = omega (arith, here (c .before .before .before .before .before) .0)
+cast-by : tie.Need-cast-by Inv-loop μ-loop
+cast-by c = omega (arith, here (c .before .before .before .before .before) .0)
 
-mul-r-2 : tie.Need-mul-r-2 Inv-loop μ-loop
-mul-r-2 c = omega (arith, here (c .before .before .before .before .before) .0)
+mul-by : tie.Need-mul-by Inv-loop μ-loop
+mul-by c = omega (arith, here (c .before .before .before .before .before) .0)
 
-element-write-r-2 : tie.Need-element-write-r-2 Inv-loop μ-loop
-element-write-r-2 c = here (c .before .before .before .before .before) .0
+element-write-by : tie.Need-element-write-by Inv-loop μ-loop
+element-write-by c = here (c .before .before .before .before .before) .0
 
-add-r : tie.Need-add-r Inv-loop μ-loop
-add-r c = omega (arith, low (c .before .before .before .before .before) _ (here (c .before .before .before .before .before) .1))
+add-rank : tie.Need-add-rank Inv-loop μ-loop
+add-rank c = omega (arith, low (c .before .before .before .before .before) _ (here (c .before .before .before .before .before) .1))
 
-cast-r-3 : tie.Need-cast-r-3 Inv-loop μ-loop
-cast-r-3 c = omega (arith, here (c .before .before .before .before .before) .0)
+cast-rank : tie.Need-cast-rank Inv-loop μ-loop
+cast-rank c = omega (arith, here (c .before .before .before .before .before) .0)
 
-mul-r-3 : tie.Need-mul-r-3 Inv-loop μ-loop
-mul-r-3 c = omega (arith, here (c .before .before .before .before .before) .0)
+mul-rank : tie.Need-mul-rank Inv-loop μ-loop
+mul-rank c = omega (arith, here (c .before .before .before .before .before) .0)
 
-element-write-r-3 : tie.Need-element-write-r-3 Inv-loop μ-loop
-element-write-r-3 c = here (c .before .before .before .before .before) .0
+element-write-rank : tie.Need-element-write-rank Inv-loop μ-loop
+element-write-rank c = here (c .before .before .before .before .before) .0
 
-add-r-2 : tie.Need-add-r-2 Inv-loop μ-loop
-add-r-2 c = omega (arith, reached-within (c .before .before .before .before .before .before .loop .inv .1 .growing))
+add-reached : tie.Need-add-reached Inv-loop μ-loop
+add-reached c = omega (arith, reached-within (c .before .before .before .before .before .before .loop .inv .1 .growing))
 
 loop-less : tie.Need-loop-less Inv-loop μ-loop
 loop-less c = omega arith
@@ -108,38 +109,38 @@ loop-less-2 c = omega arith
 loop-again-2 : tie.Need-loop-again-2 Inv-loop μ-loop
 loop-again-2 c = let i = c .before .before .before .before .before in (omega (arith, i .loop-test .taken), reach-none (i .before .before .args .t1 .edges) (i .before .before .args .t1 .count) (i .before .loop .inv .1) (i .loop-test .taken) (ends i) (λ k. omega (arith, c .before .if1 .taken)) (λ k. omega (arith, c .if2 .left)))
 
-cast-r-4 : tie.Need-cast-r-4 Inv-loop μ-loop
-cast-r-4 c = omega (arith, here (c .before .before .before .before .before) .1)
+cast-toward-2 : tie.Need-cast-toward-2 Inv-loop μ-loop
+cast-toward-2 c = omega (arith, here (c .before .before .before .before .before) .1)
 
-mul-r-4 : tie.Need-mul-r-4 Inv-loop μ-loop
-mul-r-4 c = omega (arith, here (c .before .before .before .before .before) .1)
+mul-toward-2 : tie.Need-mul-toward-2 Inv-loop μ-loop
+mul-toward-2 c = omega (arith, here (c .before .before .before .before .before) .1)
 
-element-write-r-4 : tie.Need-element-write-r-4 Inv-loop μ-loop
-element-write-r-4 c = here (c .before .before .before .before .before) .1
+element-write-toward-2 : tie.Need-element-write-toward-2 Inv-loop μ-loop
+element-write-toward-2 c = here (c .before .before .before .before .before) .1
 
-cast-r-5 : tie.Need-cast-r-5 Inv-loop μ-loop
-cast-r-5 c = omega (arith, here (c .before .before .before .before .before) .1)
+cast-by-2 : tie.Need-cast-by-2 Inv-loop μ-loop
+cast-by-2 c = omega (arith, here (c .before .before .before .before .before) .1)
 
-mul-r-5 : tie.Need-mul-r-5 Inv-loop μ-loop
-mul-r-5 c = omega (arith, here (c .before .before .before .before .before) .1)
+mul-by-2 : tie.Need-mul-by-2 Inv-loop μ-loop
+mul-by-2 c = omega (arith, here (c .before .before .before .before .before) .1)
 
-element-write-r-5 : tie.Need-element-write-r-5 Inv-loop μ-loop
-element-write-r-5 c = here (c .before .before .before .before .before) .1
+element-write-by-2 : tie.Need-element-write-by-2 Inv-loop μ-loop
+element-write-by-2 c = here (c .before .before .before .before .before) .1
 
-add-r-3 : tie.Need-add-r-3 Inv-loop μ-loop
-add-r-3 c = omega (arith, low (c .before .before .before .before .before) _ (here (c .before .before .before .before .before) .0))
+add-rank-2 : tie.Need-add-rank-2 Inv-loop μ-loop
+add-rank-2 c = omega (arith, low (c .before .before .before .before .before) _ (here (c .before .before .before .before .before) .0))
 
-cast-r-6 : tie.Need-cast-r-6 Inv-loop μ-loop
-cast-r-6 c = omega (arith, here (c .before .before .before .before .before) .1)
+cast-rank-2 : tie.Need-cast-rank-2 Inv-loop μ-loop
+cast-rank-2 c = omega (arith, here (c .before .before .before .before .before) .1)
 
-mul-r-6 : tie.Need-mul-r-6 Inv-loop μ-loop
-mul-r-6 c = omega (arith, here (c .before .before .before .before .before) .1)
+mul-rank-2 : tie.Need-mul-rank-2 Inv-loop μ-loop
+mul-rank-2 c = omega (arith, here (c .before .before .before .before .before) .1)
 
-element-write-r-6 : tie.Need-element-write-r-6 Inv-loop μ-loop
-element-write-r-6 c = here (c .before .before .before .before .before) .1
+element-write-rank-2 : tie.Need-element-write-rank-2 Inv-loop μ-loop
+element-write-rank-2 c = here (c .before .before .before .before .before) .1
 
-add-r-4 : tie.Need-add-r-4 Inv-loop μ-loop
-add-r-4 c = omega (arith, reached-within (c .before .before .before .before .before .before .loop .inv .1 .growing))
+add-reached-2 : tie.Need-add-reached-2 Inv-loop μ-loop
+add-reached-2 c = omega (arith, reached-within (c .before .before .before .before .before .before .loop .inv .1 .growing))
 
 loop-less-3 : tie.Need-loop-less-3 Inv-loop μ-loop
 loop-less-3 c = omega arith
@@ -158,7 +159,7 @@ unfolding edgesOf
 returns c =
     let p = c .before .loop .inv .1 in
     let q : c .before .loop .i ≡ c .before .before .args .t1 .count = omega arith in
-    (p .growing, p .more, λ e. subst (λ (n : ℕ). Closed (newestFirst n (c .before .before .args .t1 .edges)) (c .before .loop .r .rank)) q (p .closed e))
+    (p .growing, p .more, λ e. subst (λ (n : ℕ). Closed (newestFirst n (c .before .before .args .t1 .edges)) (c .before .loop .rank)) q (p .closed e))
 
 pub pass-spec : {M : Type 1} → statement M
 pass-spec =
@@ -177,32 +178,32 @@ pass-spec =
     element-copy-out-k
     cast-edge
     add-i
-    cast-r
-    mul-r
-    element-write-r
-    cast-r-2
-    mul-r-2
-    element-write-r-2
-    add-r
-    cast-r-3
-    mul-r-3
-    element-write-r-3
-    add-r-2
+    cast-toward
+    mul-toward
+    element-write-toward
+    cast-by
+    mul-by
+    element-write-by
+    add-rank
+    cast-rank
+    mul-rank
+    element-write-rank
+    add-reached
     loop-less
     loop-again
     loop-less-2
     loop-again-2
-    cast-r-4
-    mul-r-4
-    element-write-r-4
-    cast-r-5
-    mul-r-5
-    element-write-r-5
-    add-r-3
-    cast-r-6
-    mul-r-6
-    element-write-r-6
-    add-r-4
+    cast-toward-2
+    mul-toward-2
+    element-write-toward-2
+    cast-by-2
+    mul-by-2
+    element-write-by-2
+    add-rank-2
+    cast-rank-2
+    mul-rank-2
+    element-write-rank-2
+    add-reached-2
     loop-less-3
     loop-again-3
     loop-less-4
