@@ -11,3 +11,4 @@ pub mod Sound
 pub mod Columns
 pub mod Rows
 pub mod Faults
+pub mod Keys

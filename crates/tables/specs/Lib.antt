@@ -10,3 +10,4 @@ pub mod Colours
 pub mod Interpretations
 pub mod Read
 pub mod Marks
+pub mod Keys

@@ -2,9 +2,12 @@
 
 use super::Check;
 use super::Found;
+use super::earlier;
 use super::literal_table;
 use super::term_table;
 ghost use mathlib.Core.Path.{_≡_};
+ghost use Prim.Native.Nat.{_≤_};
+ghost use Rattle.tables.specs.TermTable.{termCount};
 ghost use Rattle.tables.specs.Checks.{foundOf, placeOf, lengthRow, countRow, layoutRow, arityRow, repeatedRow, literalRow, refuse, checked};
 ghost use Rattle.tables.specs.declared.Check.the-variants.{Sound, Layout, Arity, Repeated, Literal};
 
@@ -47,15 +50,16 @@ fn check_literals(terms: &[u8], literals: &[u8]) -> Check
 
 // Rows 3 to 5, and the row after them, once the sizes refuse nothing.
 fn check_terms(terms: &[u8], literals: &[u8]) -> Check
+    requires { ⌜ termCount (now terms) ≤ 256 ⌝ }
     ensures { λ r. ⌜ r ≡ refuse Layout (layoutRow (now (terms .entry))) (refuse Arity (arityRow (now (terms .entry))) (refuse Repeated (repeatedRow (now (terms .entry))) (refuse Literal (literalRow (now (terms .entry)) (now (literals .entry))) Sound))) ⌝ }
 {
     if let Found::At(place) = term_table::layout_row(terms) {
         return Check::Layout(place);
     }
-    if let Found::At(place) = term_table::arity_row(terms) {
+    if let Found::At(place) = earlier::arity_row(terms) {
         return Check::Arity(place);
     }
-    if let Found::At(place) = term_table::repeated_row(terms) {
+    if let Found::At(place) = earlier::repeated_row(terms) {
         return Check::Repeated(place);
     }
     check_literals(terms, literals)

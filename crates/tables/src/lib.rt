@@ -4,6 +4,7 @@ pub mod arguments;
 mod bytes;
 pub mod checks;
 mod colouring;
+mod earlier;
 mod literal_table;
 mod reading;
 mod term_table;

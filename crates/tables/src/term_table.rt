@@ -1,4 +1,4 @@
-// The term table of document 01: its records, rows 3 to 5 of the checks, and its columns as arrays. The tests of one record are joined
+// The term table of document 01: its records, row 3 of the checks, and its columns as arrays. The tests of one record are joined
 // by | and &, so that each is the definition's own.
 
 use super::Found;
@@ -9,8 +9,8 @@ ghost use Prim.Native.Nat.{_+_, _*_, _≤_, _<_};
 ghost use lib.ListN.{length};
 ghost use Rattle.tables.specs.Bytes.{byteAt, wordAt};
 ghost use Rattle.tables.specs.Words.{someBelow};
-ghost use Rattle.tables.specs.TermTable.{termCount, termRecord, rowOf, spareWrong, notLower, unusedNotZero, breaksLayout, otherArity, hadOtherArity, equalRecords, equalsEarlier};
-ghost use Rattle.tables.specs.Checks.{foundOf, layoutRow, arityRow, repeatedRow};
+ghost use Rattle.tables.specs.TermTable.{termCount, termRecord, rowOf, spareWrong, notLower, unusedNotZero, breaksLayout};
+ghost use Rattle.tables.specs.Checks.{foundOf, layoutRow};
 ghost use Rattle.tables.specs.Read.{filled};
 
 // The bytes of term record k, so that a field is read at its own offset.
@@ -65,54 +65,6 @@ fn breaks_layout(terms: &[u8], k: usize) -> bool
     (r[2] > 4) | spare_wrong(r) | arguments_wrong(r, k)
 }
 
-// Whether record k has the symbol of record j and another arity.
-fn other_arity(terms: &[u8], k: usize, j: usize) -> bool
-    requires { ⌜ (16 * k + 16 ≤ length (now terms)) × (16 * j + 16 ≤ length (now terms)) ⌝ }
-    ensures { λ b. ⌜ b ≡ otherArity (now (terms .entry)) k j ⌝ }
-{
-    let earlier = term_record(terms, j);
-    let own = term_record(terms, k);
-    (bytes::word_at(earlier, 0) == bytes::word_at(own, 0)) & (earlier[2] != own[2])
-}
-
-// Row 4: "a symbol had another arity in an earlier record".
-fn had_other_arity(terms: &[u8], k: usize) -> bool
-    requires { ⌜ 16 * k + 16 ≤ length (now terms) ⌝ }
-    ensures { λ b. ⌜ b ≡ hadOtherArity (now (terms .entry)) k ⌝ }
-{
-    let mut j = 0;
-    while j < k {
-        if other_arity(terms, k, j) {
-            return true;
-        }
-        j += 1;
-    }
-    false
-}
-
-// Whether record k has the same 16 bytes as record j.
-fn equal_records(terms: &[u8], k: usize, j: usize) -> bool
-    requires { ⌜ (16 * k + 16 ≤ length (now terms)) × (16 * j + 16 ≤ length (now terms)) ⌝ }
-    ensures { λ b. ⌜ b ≡ equalRecords (now (terms .entry)) k j ⌝ }
-{
-    bytes::same(term_record(terms, j), term_record(terms, k))
-}
-
-// Row 5: "a term record equals an earlier one".
-fn equals_earlier(terms: &[u8], k: usize) -> bool
-    requires { ⌜ 16 * k + 16 ≤ length (now terms) ⌝ }
-    ensures { λ b. ⌜ b ≡ equalsEarlier (now (terms .entry)) k ⌝ }
-{
-    let mut j = 0;
-    while j < k {
-        if equal_records(terms, k, j) {
-            return true;
-        }
-        j += 1;
-    }
-    false
-}
-
 // Row 3's place: the first record that breaks its layout.
 pub fn layout_row(terms: &[u8]) -> Found
     ensures { λ r. ⌜ foundOf r ≡ layoutRow (now (terms .entry)) ⌝ }
@@ -121,36 +73,6 @@ pub fn layout_row(terms: &[u8]) -> Found
     let mut k = 0;
     while k < count {
         if breaks_layout(terms, k) {
-            return Found::At(k);
-        }
-        k += 1;
-    }
-    Found::Nothing
-}
-
-// Row 4's place: the first record whose symbol had another arity.
-pub fn arity_row(terms: &[u8]) -> Found
-    ensures { λ r. ⌜ foundOf r ≡ arityRow (now (terms .entry)) ⌝ }
-{
-    let count = terms.len() / 16;
-    let mut k = 0;
-    while k < count {
-        if had_other_arity(terms, k) {
-            return Found::At(k);
-        }
-        k += 1;
-    }
-    Found::Nothing
-}
-
-// Row 5's place: the first record that equals an earlier one.
-pub fn repeated_row(terms: &[u8]) -> Found
-    ensures { λ r. ⌜ foundOf r ≡ repeatedRow (now (terms .entry)) ⌝ }
-{
-    let count = terms.len() / 16;
-    let mut k = 0;
-    while k < count {
-        if equals_earlier(terms, k) {
             return Found::At(k);
         }
         k += 1;

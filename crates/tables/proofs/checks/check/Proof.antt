@@ -5,7 +5,7 @@ use Prim.Native.Nat.{ℕ}
 use Rattle.tables.specs.Checks.{checked}
 use Rattle.tables.specs.declared.Check.{Check}
 use Rattle.tables.specs.declared.Check.the-variants.{Length, Count}
-use Rattle.tables.proofs.Rows.{refuse-found, refuse-nothing, from2, from3}
+use Rattle.tables.proofs.Rows.{nothing-found, refuse-found, refuse-nothing, count-none, from2, from3}
 use borrow.Author.Needs.{needs}
 use Rattle.tables.proofs.checks.check.Statement.{statement}
 use Rattle.tables.proofs.checks.check.Tie as tie
@@ -47,7 +47,7 @@ enum-told-2 : tie.Need-enum-told-2
 enum-told-2 c = search needs
 
 check-terms-requires : tie.Need-check-terms-requires
-check-terms-requires c κs = search needs
+check-terms-requires c κs = count-none _ _ .0 (nothing-found _ _ (c .before .before .count-row .ensures) (c .enum-told2 .given .1)) .0
 
 returns-3 : tie.Need-returns-3
 returns-3 c = c .check-terms .ensures ∙ sym (past-count (c .before))

@@ -1,10 +1,10 @@
--- `tables::term_table::equal_records` meets its contract. The two byte strings compared are the two records.
+-- `tables::earlier::equal_records` meets its contract. The two byte strings compared are the two records.
 use mathlib.Core.Path.{ap₂, _∙_}
 use borrow.Author.Needs.{needs}
 use Rattle.tables.specs.Words.{same}
 use Rattle.tables.specs.TermTable.{equalRecords}
-use Rattle.tables.proofs.term_table.equal_records.Statement.{statement}
-use Rattle.tables.proofs.term_table.equal_records.Tie as tie
+use Rattle.tables.proofs.earlier.equal_records.Statement.{statement}
+use Rattle.tables.proofs.earlier.equal_records.Tie as tie
 
 term-record-requires : tie.Need-term-record-requires
 term-record-requires c κs = search needs

@@ -1,10 +1,10 @@
--- `tables::term_table::equals_earlier` meets its contract. The invariant: no record passed is the same. The measure is what is left of them.
+-- `tables::earlier::equals_earlier` meets its contract. The invariant: no record passed is the same. The measure is what is left of them.
 use Prim.Native.Nat.{_-_}
 use native.Mathlib.Omega.{arith}
 use Rattle.tables.specs.TermTable.{equalRecords, equalsEarlier}
 use Rattle.tables.proofs.Records.{NoneYet, none-yet, some-passed, none-more, none-passed}
-use Rattle.tables.proofs.term_table.equals_earlier.Statement.{statement}
-use Rattle.tables.proofs.term_table.equals_earlier.Tie as tie
+use Rattle.tables.proofs.earlier.equals_earlier.Statement.{statement}
+use Rattle.tables.proofs.earlier.equals_earlier.Tie as tie
 
 abbrev Inv-loop : tie.InvT-loop
 Inv-loop terms k j₀ j = NoneYet (equalRecords terms k) k j
