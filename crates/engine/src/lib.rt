@@ -26,12 +26,12 @@ pub fn split(
 ) -> Answer
     ensures { λ r. ⌜ record { answer = r; buffers = record { partition = now (partition .exit); added = now (added .exit); clauses = now (clauses .exit) } } ≡ judged (now (terms .entry)) (now (literals .entry)) (record { partition = now (partition .entry); added = now (added .entry); clauses = now (clauses .entry) }) ⌝ }
 {
-    let t = tables::read(terms, literals);
+    let t = reading::read(terms, literals);
     let check = t.check;
     let Check::Sound = check else {
         return verdict::refusal(check);
     };
-    let rows = tables::arguments::rows(terms);
+    let rows = reading::arguments::rows(terms);
     let end = run::own_run(t, rows);
     answers::ended(t, end, partition, added, clauses)
 }

@@ -3,11 +3,9 @@ pub mod Words
 pub mod WordBytes
 pub mod Terms
 pub mod Colours
-pub mod Marks
 pub mod Tests
 pub mod Records
 pub mod Filled
 pub mod Sound
-pub mod Columns
 pub mod Rows
 pub mod Faults

@@ -60,6 +60,24 @@ module _ (p : ℕ → Bool) (n : ℕ) where
   pub none-passed : (i : ℕ) → NoneYet i → n ≤ i → false ≡ someBelow p n
   none-passed i y h = let e : i ≡ n = omega arith in sym (y .1) ∙ ap (someBelow p) e
 
+  -- the loops that ask it without an early end: whether one below i did
+  abbrev pub SoFar : ℕ → Bool → Type 0
+  SoFar i b = (i ≤ n) × (b ≡ someBelow p i)
+
+  -- below 0 there is none
+  pub so-far : SoFar 0 false
+  unfolding someBelow
+  so-far = (omega arith, refl)
+
+  -- one number more
+  pub so-far-more : (i : ℕ) (b : Bool) → SoFar i b → i < n → SoFar (i + 1) (b || p i)
+  unfolding someBelow
+  so-far-more i b y h = (omega arith, ap (λ (a : Bool). a || p i) (y .1) ∙ sym (ap (someBelow p) (add-one i)))
+
+  -- all were asked
+  pub so-far-all : (i : ℕ) (b : Bool) → SoFar i b → n ≤ i → b ≡ someBelow p n
+  so-far-all i b y h = let e : i ≡ n = omega arith in y .1 ∙ ap (someBelow p) e
+
   -- the loops that look for the first number below n that passes: none below i did
   abbrev pub NotYet : ℕ → Type 0
   NotYet i = (i ≤ n) × (firstBelow p i ≡ none)

@@ -35,9 +35,13 @@ refuse-next row o next e = ap (λ (w : Option ℕ). refuse row w next) e
 pub refuse-found : (row : ℕ → Check) (r : Found) (o : Option ℕ) (next : Check) (place : ℕ) → foundOf r ≡ o → r ≡ At place → refuse row o next ≡ row place
 refuse-found row r o next place e q = refuse-at row o next place (sym e ∙ ap foundOf q)
 
--- where it found nothing, it is left to the next
+-- where it found nothing, the row names no place
+pub nothing-found : (r : Found) (o : Option ℕ) → foundOf r ≡ o → r ≡ Nothing → o ≡ none
+nothing-found r o e q = sym e ∙ ap foundOf q
+
+-- and it is left to the next
 pub refuse-nothing : (row : ℕ → Check) (r : Found) (o : Option ℕ) (next : Check) → foundOf r ≡ o → r ≡ Nothing → refuse row o next ≡ next
-refuse-nothing row r o next e q = refuse-next row o next (sym e ∙ ap foundOf q)
+refuse-nothing row r o next e q = refuse-next row o next (nothing-found r o e q)
 
 -- the refusals of row n carry its number and their place
 record Row (n : ℕ) (row : ℕ → Check) : Type 0 where
@@ -165,7 +169,7 @@ module _ (ts ls : List ℕ) where
       place-some (ltb 256 (termCount ts)) (ltb 1024 (literalCount ls)) _ _ k (lt-test 256 (termCount ts)) (lt-test 1024 (literalCount ls))
 
   -- row 2 names none
-  count-none : (countRow ts ls ≡ none) ↔ WithinCounts ts ls
+  pub count-none : (countRow ts ls ≡ none) ↔ WithinCounts ts ls
   unfolding countRow
   count-none =
       place-none (ltb 256 (termCount ts)) (ltb 1024 (literalCount ls)) _ _ _ _

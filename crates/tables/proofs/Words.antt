@@ -235,6 +235,12 @@ some-someBelow p (suc n) k h l = go (below-or-is k n h) (λ w. some-someBelow p 
     go (inl w) f = or-left (someBelow p n) (p n) (f w)
     go (inr e) f = or-right (someBelow p n) (p n) (subst (λ z. T (p z)) e l)
 
+-- tests that agree below n pass for some number below n alike
+pub someBelow-agree : (p q : ℕ → Bool) (n : ℕ) → ((k : ℕ) → k < n → p k ≡ q k) → someBelow p n ≡ someBelow q n
+unfolding someBelow
+someBelow-agree p q zero f = refl
+someBelow-agree p q (suc n) f = ap₂ (λ (a b : Bool). a || b) (someBelow-agree p q n (λ k h. f k (omega arith))) (f n (le-refl (suc n)))
+
 pub firstBelow-none : (p : ℕ → Bool) (n : ℕ) → firstBelow p n ≡ none → (k : ℕ) → k < n → T (p k) → ⊥
 unfolding firstBelow orElse
 firstBelow-none p zero e k h l = absurd (not-suc-le-zero h)

@@ -9,4 +9,3 @@ pub mod Terms
 pub mod Colours
 pub mod Interpretations
 pub mod Read
-pub mod Marks

@@ -1,15 +1,4 @@
-// The two tables of document 01: any bytes in; the refusals 1 to 6 with their place, or the tables read.
-
-pub mod arguments;
-mod bytes;
-pub mod checks;
-mod colouring;
-mod literal_table;
-mod reading;
-mod term_table;
-
-ghost use mathlib.Core.Path.{_≡_};
-ghost use Rattle.tables.specs.Read.{tablesRead};
+// The two tables of document 01: what its definitions and theorems (specs/ and proofs/) say of their bytes, and the types that hold them.
 
 // A literal is marked A or B, and so is an edge of the graph.
 pub enum Side {
@@ -48,16 +37,4 @@ pub struct Tables {
     pub kinds: [u8; 1024],
     pub lefts: [u16; 1024],
     pub rights: [u16; 1024],
-}
-
-// Any two byte strings, read: the row that refuses them with its place, or the tables as arrays.
-pub fn read(terms: &[u8], literals: &[u8]) -> Tables
-    ensures { λ r. ⌜ r ≡ tablesRead (now (terms .entry)) (now (literals .entry)) ⌝ }
-{
-    let check = checks::check(terms, literals);
-    if let Check::Sound = check {
-        reading::sound(terms, literals)
-    } else {
-        reading::refused(check)
-    }
 }

@@ -1,0 +1,115 @@
+-- `sound` meets its contract: the arrays hold the columns of sound tables, so the marks and colours are those of the definitions.
+use borrow.Author.Needs.{needs}
+use Rattle.tables.specs.TermTable.{termCount}
+use Rattle.tables.specs.LiteralTable.{literalCount}
+use Rattle.tables.specs.Read.{soundTables}
+use Rattle.tables.specs.declared.Check.the-variants.{Sound}
+use Rattle.tables.proofs.Sound.{sound}
+use Rattle.reading.proofs.Columns.{Columns, columns-lower, columns-within, columns-used, columns-colours}
+use Rattle.reading.proofs.arrays.sound.Statement.{statement}
+use Rattle.reading.proofs.arrays.sound.Tie as tie
+
+-- the arrays that were read, up to the right sides, hold the columns
+abbrev known : tie.After-literal-words2 → Columns
+known c =
+    record {
+      bs = c .before .before .before .before .before .before .before .before .before .args .terms .now;
+      ls = c .before .before .before .before .before .before .before .before .before .args .literals .now;
+      symbols = c .before .before .before .before .before .before .term-words .result;
+      arities = c .before .before .before .before .before .term-bytes .result;
+      rows = c .before .before .before .before .rows .result;
+      sides = c .before .before .before .literal-bytes .result;
+      lefts = c .before .literal-words .result;
+      rights = c .literal-words2 .result;
+      tables = sound (c .before .before .before .before .before .before .before .before .before .args .terms .now) (c .before .before .before .before .before .before .before .before .before .args .literals .now) (c .before .before .before .before .before .before .before .before .before .pre);
+      symbols-read = c .before .before .before .before .before .before .term-words .ensures;
+      arities-read = c .before .before .before .before .before .term-bytes .ensures;
+      rows-read = c .before .before .before .before .rows .ensures;
+      sides-read = c .before .before .before .literal-bytes .ensures;
+      lefts-read = c .before .literal-words .ensures;
+      rights-read = c .literal-words2 .ensures;
+    }
+
+term-words-requires : tie.Need-term-words-requires
+term-words-requires c κs = search needs
+
+term-bytes-requires : tie.Need-term-bytes-requires
+term-bytes-requires c κs = search needs
+
+rows-requires : tie.Need-rows-requires
+rows-requires c κs = search needs
+
+literal-bytes-requires : tie.Need-literal-bytes-requires
+literal-bytes-requires c κs = search needs
+
+literal-bytes-requires-2 : tie.Need-literal-bytes-requires-2
+literal-bytes-requires-2 c κs = search needs
+
+literal-words-requires : tie.Need-literal-words-requires
+literal-words-requires c κs = search needs
+
+literal-words-requires-2 : tie.Need-literal-words-requires-2
+literal-words-requires-2 c κs = search needs
+
+inside-requires : tie.Need-inside-requires
+inside-requires c κs = (columns-lower (known (c .before .before .before .before .before)), columns-within (known (c .before .before .before .before .before)))
+
+inside-requires-2 : tie.Need-inside-requires-2
+inside-requires-2 c κs = (columns-lower (known (c .before .before .before .before .before .before .before .before .before .before .before)), columns-within (known (c .before .before .before .before .before .before .before .before .before .before .before)))
+
+in-use-requires : tie.Need-in-use-requires
+in-use-requires c κs = known (c .before .before .before .before .before .before .before .before .before .before .before .before .before .before) .tables .terms-fit
+
+occurring-requires : tie.Need-occurring-requires
+occurring-requires c κs = known (c .before .before .before .before .before .before .before .before .before .before .before .before .before .before .before .before .before) .tables .terms-fit
+
+occurring-requires-2 : tie.Need-occurring-requires-2
+occurring-requires-2 c κs = known (c .before .before .before .before .before .before .before .before .before .before .before .before .before .before .before .before .before .before .before .before) .tables .terms-fit
+
+colours-requires : tie.Need-colours-requires
+colours-requires c κs = (columns-lower (known (c .before .before .before .before .before .before .before .before .before .before .before .before .before .before .before .before .before .before .before .before .before .before .before .before .before)), known (c .before .before .before .before .before .before .before .before .before .before .before .before .before .before .before .before .before .before .before .before .before .before .before .before .before) .tables .terms-fit)
+
+returns : tie.Need-returns
+unfolding soundTables
+returns c =
+    let k = known (c .before .before .before .before .before .before .before .before .before .before .before .before .before .before .before .before .before .before .before .before .before .before .before .before .before .before) in
+    let a = c .before .before .before .before .before .before .before .before .before .before .before .before .before .before .before .before .before .before .before .before .inside in
+    let b = c .before .before .before .before .before .before .before .before .before .before .before .before .before .before .inside2 in
+    let in-use = c .before .before .before .before .before .before .before .before .before .before .before .in-use in
+    let in-a = c .before .before .before .before .before .before .before .before .occurring in
+    let in-b = c .before .before .before .before .before .occurring2 in
+    let used = columns-used k (a .result) (b .result) (a .ensures) (b .ensures) (in-use .result) (in-use .ensures) in
+    let colours = columns-colours k (a .result) (b .result) (a .ensures) (b .ensures) (in-a .result) (in-b .result) (c .colours .result) (in-a .ensures) (in-b .ensures) (c .colours .ensures) in
+    λ i.
+    record {
+      check = Sound;
+      terms = termCount (k .bs);
+      literals = literalCount (k .ls);
+      symbols = k .symbols-read i;
+      arities = k .arities-read i;
+      used = used i;
+      colours = colours i;
+      sides = k .sides-read i;
+      kinds = c .before .before .before .before .before .before .before .before .before .before .before .before .before .before .before .before .before .before .before .before .before .before .before .before .before .before .before .before .literal-bytes2 .ensures i;
+      lefts = k .lefts-read i;
+      rights = k .rights-read i;
+    }
+
+pub sound-spec : {M : Type 1} → statement M
+sound-spec =
+    tie.close
+    (tie.spec
+    term-words-requires
+    term-bytes-requires
+    rows-requires
+    literal-bytes-requires
+    literal-bytes-requires-2
+    literal-words-requires
+    literal-words-requires-2
+    inside-requires
+    inside-requires-2
+    in-use-requires
+    occurring-requires
+    occurring-requires-2
+    colours-requires
+    returns)

@@ -1,0 +1,164 @@
+// Terms in use and colours: which terms stand in the literals, and whose symbols all occur on a side.
+ghost use mathlib.Core.Bool.{false, cond, not, _||_};
+ghost use mathlib.Core.List.{List};
+ghost use mathlib.Core.Path.{_≡_};
+ghost use Prim.Native.Nat.{_+_, _≤_, _<_};
+ghost use lib.ListN.{length, getD};
+ghost use Rattle.tables.specs.Words.{someBelow};
+ghost use Rattle.tables.specs.Terms.{Term};
+ghost use Rattle.reading.specs.Marks.{LowerRows, Markable, Describes, MarkedToo, LiteralsWithin, Inside, sameSymbolInside, markedAndMissing, partsColour};
+ghost use Rattle.tables.specs.Read.{filled};
+
+// Marks the term t and, all the way down, its arguments; what is marked is not descended into again.
+fn mark(rows: &[[u16; 4]; 256], arities: &[u8; 256], marks: &mut [bool; 256], t: usize)
+    requires { ⌜ Markable (now rows) (now arities) (now marks) t ⌝ }
+    ensures { λ _. ⌜ MarkedToo (now (rows .entry)) (now (arities .entry)) t (now (marks .entry)) (now (marks .exit)) ⌝ }
+{
+    if marks[t] {
+        return;
+    }
+    let arity = arities[t] as usize;
+    let mut j = 0;
+    while j < arity {
+        mark(rows, arities, marks, rows[t][j] as usize);
+        j += 1;
+    }
+    marks[t] = true;
+}
+
+// Which terms stand in the literals of a side: the sides of these literals and, all the way down, their arguments.
+pub fn inside(
+    rows: &[[u16; 4]; 256],
+    arities: &[u8; 256],
+    sides: &[u8; 1024],
+    lefts: &[u16; 1024],
+    rights: &[u16; 1024],
+    literals: usize,
+    side: u8,
+) -> [bool; 256]
+    requires { ⌜ LowerRows (now rows) (now arities) ⌝ }
+    requires { ⌜ LiteralsWithin (now lefts) (now rights) literals ⌝ }
+    ensures { λ r. ⌜ Inside (now (rows .entry)) (now (arities .entry)) (now (sides .entry)) (now (lefts .entry)) (now (rights .entry)) side literals r ⌝ }
+{
+    let mut marks = [false; 256];
+    let mut k = 0;
+    while k < literals {
+        if sides[k] == side {
+            mark(rows, arities, &mut marks, lefts[k] as usize);
+            mark(rows, arities, &mut marks, rights[k] as usize);
+        }
+        k += 1;
+    }
+    marks
+}
+
+// Whether the symbol of term t is the symbol of a term that is inside.
+fn occurs(symbols: &[u16; 256], inside: &[bool; 256], terms: usize, t: usize) -> bool
+    requires { ⌜ (terms ≤ 256) × (t < 256) ⌝ }
+    ensures { λ r. ⌜ r ≡ someBelow (sameSymbolInside (now (symbols .entry)) (now (inside .entry)) t) terms ⌝ }
+{
+    let symbol = symbols[t];
+    let mut u = 0;
+    while u < terms {
+        if inside[u] && symbols[u] == symbol {
+            return true;
+        }
+        u += 1;
+    }
+    false
+}
+
+// For each term, whether its symbol occurs.
+pub fn occurring(symbols: &[u16; 256], inside: &[bool; 256], terms: usize) -> [bool; 256]
+    requires { ⌜ terms ≤ 256 ⌝ }
+    ensures { λ r. ⌜ r ≡ filled 256 false terms (λ t. someBelow (sameSymbolInside (now (symbols .entry)) (now (inside .entry)) t) terms) ⌝ }
+{
+    let mut column = [false; 256];
+    let mut t = 0;
+    while t < terms {
+        column[t] = occurs(symbols, inside, terms, t);
+        t += 1;
+    }
+    column
+}
+
+// Whether no marked term lacks an occurring symbol.
+fn all_occur(marks: &[bool; 256], occurring: &[bool; 256], terms: usize) -> bool
+    requires { ⌜ terms ≤ 256 ⌝ }
+    ensures { λ r. ⌜ r ≡ not (someBelow (markedAndMissing (now (marks .entry)) (now (occurring .entry))) terms) ⌝ }
+{
+    let mut u = 0;
+    while u < terms {
+        if marks[u] && !occurring[u] {
+            return false;
+        }
+        u += 1;
+    }
+    true
+}
+
+// Two colours as one number.
+fn colour_number(a: bool, b: bool) -> u8
+    ensures { λ r. ⌜ r ≡ cond a 1 0 + cond b 2 0 ⌝ }
+{
+    if a {
+        if b { 3 } else { 1 }
+    } else {
+        if b { 2 } else { 0 }
+    }
+}
+
+// The colours of term t as one number: 1 where each of its symbols occurs in A, and 2 more where each occurs in B.
+fn colour(
+    rows: &[[u16; 4]; 256],
+    arities: &[u8; 256],
+    in_a: &[bool; 256],
+    in_b: &[bool; 256],
+    terms: usize,
+    t: usize,
+) -> u8
+    requires { ⌜ LowerRows (now rows) (now arities) ⌝ }
+    requires { ⌜ (t < terms) × (terms ≤ 256) ⌝ }
+    ensures { λ r. ⌜ ((ts : List Term) → Describes (now (rows .entry)) (now (arities .entry)) ts → length ts ≡ terms → r ≡ partsColour (now (in_a .entry)) (now (in_b .entry)) ts t) ⌝ }
+{
+    let mut parts = [false; 256];
+    mark(rows, arities, &mut parts, t);
+    let a = all_occur(&parts, in_a, terms);
+    let b = all_occur(&parts, in_b, terms);
+    colour_number(a, b)
+}
+
+// For each term, its colours.
+pub fn colours(
+    rows: &[[u16; 4]; 256],
+    arities: &[u8; 256],
+    in_a: &[bool; 256],
+    in_b: &[bool; 256],
+    terms: usize,
+) -> [u8; 256]
+    requires { ⌜ LowerRows (now rows) (now arities) ⌝ }
+    requires { ⌜ terms ≤ 256 ⌝ }
+    ensures { λ r. ⌜ ((ts : List Term) → Describes (now (rows .entry)) (now (arities .entry)) ts → length ts ≡ terms → r ≡ filled 256 0 terms (partsColour (now (in_a .entry)) (now (in_b .entry)) ts)) ⌝ }
+{
+    let mut column = [0u8; 256];
+    let mut t = 0;
+    while t < terms {
+        column[t] = colour(rows, arities, in_a, in_b, terms, t);
+        t += 1;
+    }
+    column
+}
+
+// For each term, whether it is in use: it stands in a literal of A or in one of B.
+pub fn in_use(a: &[bool; 256], b: &[bool; 256], terms: usize) -> [bool; 256]
+    requires { ⌜ terms ≤ 256 ⌝ }
+    ensures { λ r. ⌜ r ≡ filled 256 false terms (λ t. getD (now (a .entry)) t false || getD (now (b .entry)) t false) ⌝ }
+{
+    let mut column = [false; 256];
+    let mut t = 0;
+    while t < terms {
+        column[t] = a[t] || b[t];
+        t += 1;
+    }
+    column
+}
