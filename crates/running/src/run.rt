@@ -92,7 +92,15 @@ fn derived_steps(start: State, given: usize) -> Stepped
     let mut st = start;
     let mut turns = given;
     while 0 < turns {
-        let found = search::first_pair(st, given);
+        let rows = st.rows;
+        let found = search::first_pair(
+            &st.labels,
+            &st.symbols,
+            &st.vertices,
+            &st.arities,
+            rows,
+            given,
+        );
         let Pair::Of(s, t) = found else {
             return Stepped {
                 stuck: false,
