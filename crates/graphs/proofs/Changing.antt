@@ -5,7 +5,7 @@ use Prim.Native.Nat.{ℕ, suc, _+_, _≤_, _<_}
 use native.Mathlib.Numerals.{add-one}
 use native.Mathlib.Omega.{arith}
 use lib.ListN.{length, getD, take, drop, set, length-map, length-take}
-use lib.Seq.{take-suc, take-length, drop-cons, drop-length, set-at, set-getD, getD-at}
+use lib.Seq.{take-suc, take-length, drop-cons, drop-length, set-at, getD-at}
 
 module _ (f : ℕ → ℕ) (xs : List ℕ) where
   -- the array once its first i places are changed
@@ -46,12 +46,6 @@ module _ (f : ℕ → ℕ) (xs : List ℕ) where
     omega arith,
     ap₂ (λ (l : List ℕ) (z : ℕ). set l i z) (w .1) (e ∙ ap f (ap (λ (l : List ℕ). getD l i 0) (w .1) ∙ changed-at i h)) ∙ changed-more i h,
   )
-
-  -- a turn at a place that the rule does not change
-  pub changing-kept : (i : ℕ) (ys : List ℕ) → Changing i ys → i < length xs → getD ys i 0 ≡ f (getD ys i 0) → Changing (i + 1) ys
-  changing-kept i ys w h e =
-      let r = changing-set i ys (getD ys i 0) w h e in
-      (r .0, sym (set-getD ys i 0) ∙ r .1)
 
   pub changing-all : (i : ℕ) (ys : List ℕ) → Changing i ys → length xs ≤ i → ys ≡ map f xs
   changing-all i ys w h = let e : i ≡ length xs = omega arith in w .1 ∙ ap changed e ∙ changed-all

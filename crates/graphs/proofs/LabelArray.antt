@@ -1,10 +1,9 @@
 -- Laws of the array of labels: one edge more changes it by one rule.
-use mathlib.Core.Bool.{Bool, cond}
+use mathlib.Core.Bool.{cond}
 use mathlib.Core.List.{List, [], _∷_, _++_, map, map-map, append-nil}
-use mathlib.Core.Path.{_≡_, sym, ap, _∙_}
+use mathlib.Core.Path.{_≡_, ap, _∙_}
 use Prim.Native.Nat.{ℕ, _+_, _-_, _≤_, _<_}
 use native.Mathlib.Omega.{arith}
-use borrow.Author.Tests.{eq-eqb, ne-eqb}
 use lib.Dec.{eqb}
 use lib.ListN.{getD, replicate}
 use Rattle.tables.specs.Words.{below}
@@ -16,14 +15,6 @@ use Rattle.closure.specs.declared.Edge.{Edge}
 use Rattle.graphs.specs.Layout.{labelsOf}
 
 -- ---- labels
-
--- the rule of one edge: who had the one number gets the other
-pub relabel-to : (from to x : ℕ) → x ≡ from → to ≡ cond (eqb x from) to x
-relabel-to from to x e = sym (ap (λ (b : Bool). cond b to x) (eq-eqb x from e))
-
--- and all others keep theirs
-pub relabel-kept : (from to x : ℕ) → (x ≡ from → ⊥) → x ≡ cond (eqb x from) to x
-relabel-kept from to x e = sym (ap (λ (b : Bool). cond b to x) (ne-eqb x from e))
 
 -- the label of a term
 pub label-at : (G : Graph) (v d : ℕ) → v < 511 → getD (labelsOf G) v d ≡ label G v

@@ -4,6 +4,7 @@ ghost use mathlib.Core.Bool.{cond};
 ghost use mathlib.Core.List.{[], map};
 ghost use mathlib.Core.Path.{_≡_};
 ghost use lib.Dec.{eqb};
+ghost use lib.ListN.{length};
 ghost use Rattle.graphs.specs.Layout.{labelsOf};
 
 // Without edges each term has its own.
@@ -20,16 +21,20 @@ pub fn own_labels() -> [u16; 511]
 }
 
 // An edge gives those at one end the number of the other end.
-pub fn relabelled(labels: [u16; 511], from: u16, to: u16) -> [u16; 511]
-    ensures { λ r. ⌜ r ≡ map (λ x. cond (eqb x from) to x) labels ⌝ }
+fn new_label(label: u16, from: u16, to: u16) -> u16
+    ensures { λ r. ⌜ r ≡ cond (eqb label from) to label ⌝ }
 {
-    let mut next = labels;
+    if label == from { to } else { label }
+}
+
+// So the labels change with an edge, in their place: every place is written, with no branch in the loop.
+pub fn relabel(labels: &mut [u16; 511], from: u16, to: u16)
+    requires { ⌜ length (now labels) ≡ 511 ⌝ }
+    ensures { λ _. ⌜ now (labels .exit) ≡ map (λ x. cond (eqb x from) to x) (now (labels .entry)) ⌝ }
+{
     let mut place = 0;
     while place < 511 {
-        if next[place] == from {
-            next[place] = to;
-        }
+        labels[place] = new_label(labels[place], from, to);
         place += 1;
     }
-    next
 }

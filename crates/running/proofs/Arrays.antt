@@ -1,7 +1,7 @@
 -- Arrays that a loop fills from the front.
-use mathlib.Core.List.{List, _++_, map}
-use mathlib.Core.Path.{_≡_, sym, ap, ap₂, _∙_}
-use Prim.Native.Nat.{ℕ, suc, _+_, _-_, _≤_, _<_, min}
+use mathlib.Core.List.{List, [], _∷_, _++_, map}
+use mathlib.Core.Path.{_≡_, refl, sym, ap, ap₂, _∙_}
+use Prim.Native.Nat.{ℕ, zero, suc, _+_, _-_, _≤_, _<_, min}
 use native.Mathlib.Omega.{arith}
 use lib.ListN.{getD, set, replicate}
 use lib.Seq.{set-getD, getD-at}
@@ -29,3 +29,11 @@ filling-kept {X = X} size filler f n i xs h w l e =
     ap (λ (ys : List X). getD ys i filler) (w .1 ∙ ap (λ (k : ℕ). map f (below i) ++ replicate k filler) rest) ∙
     getD-at (map f (below i)) filler (replicate (size - (i + 1)) filler) filler i (length-map-below f i) in
     (r .0, sym (set-getD xs i filler) ∙ ap (λ (x : X). set xs i x) there ∙ r .1)
+
+-- past the numbers of a list stands 0
+pub zeros-behind : (xs : List ℕ) (n j : ℕ) → getD (xs ++ replicate n 0) j 0 ≡ getD xs j 0
+zeros-behind [] zero j = refl
+zeros-behind [] (suc n) zero = refl
+zeros-behind [] (suc n) (suc j) = zeros-behind [] n j
+zeros-behind (x ∷ xs) n zero = refl
+zeros-behind (x ∷ xs) n (suc j) = zeros-behind xs n j

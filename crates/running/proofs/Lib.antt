@@ -6,6 +6,7 @@ pub mod Beginning
 pub mod Candidates
 pub mod Choices
 pub mod DerivedSteps
+pub mod Ends
 pub mod EqualVertex
 pub mod FirstPair
 pub mod OnRuns

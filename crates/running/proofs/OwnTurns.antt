@@ -26,6 +26,7 @@ use Rattle.running.specs.Stepping.{Checked, OnRun, Outcome, Ends}
 use Rattle.running.specs.declared.Row.{Row}
 use Rattle.running.specs.declared.state.State.{State as Arrays}
 use Rattle.running.specs.declared.state.Stepped.{Stepped}
+use Rattle.running.proofs.Arrays.{zeros-behind}
 use Rattle.running.proofs.Showing.{shown-arity, shown-row}
 use Rattle.running.proofs.Beginning.{sound-tables, terms-are, arity-length}
 use Rattle.closure.proofs.Running.OwnSteps.{basic-steps-run}
@@ -34,14 +35,6 @@ use Rattle.running.proofs.EqualVertex.{padded-length}
 use Rattle.running.proofs.OnRuns.{not-both, on-run-sound, arity-small as few-arguments}
 
 -- ---- the arrays can be looked up
-
--- past the arguments stands 0
-zeros-behind : (xs : List ℕ) (n j : ℕ) → getD (xs ++ replicate n 0) j 0 ≡ getD xs j 0
-zeros-behind [] zero j = refl
-zeros-behind [] (suc n) zero = refl
-zeros-behind [] (suc n) (suc j) = zeros-behind [] n j
-zeros-behind (x ∷ xs) n zero = refl
-zeros-behind (x ∷ xs) n (suc j) = zeros-behind xs n j
 
 -- the fields of a row are within where the arguments are
 fields-within : (xs : List ℕ) → length xs ≤ 4 → ((j : ℕ) → j < length xs → getD xs j 0 < 511) → FieldsWithin (padded xs)
@@ -54,7 +47,7 @@ module _ {a : Arrays} (run : OnRun a) where
   table = tableOf (run .ts) (run .reached)
 
   -- the arrays of a run can be looked up
-  pub orderly : Orderly a
+  pub orderly : Orderly (a .rows) (a .arities)
   orderly = record { rows = rows; arities = arities }
     where
       -- the rows

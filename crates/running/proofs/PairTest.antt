@@ -99,7 +99,7 @@ tested keys symbols labels arities rows G a b =
     candidate keys symbols labels a b &&
     joinedPairwise G (take (getD arities a 0) (getD rows a noRow .args)) (take (getD arities a 0) (getD rows b noRow .args))
 
-module _ (ts : List Term) (ls : List Literal) (st : State) (s : Arrays) (shows : Shows ts ls st s) (orderly : Orderly s) (given : ℕ) (all : given ≡ length ts) (few : given ≤ 256) (keys : List ℕ) (keys-are : keys ≡ keysOf given (s .vertices) (s .symbols) (s .rows) (s .labels)) where
+module _ (ts : List Term) (ls : List Literal) (st : State) (s : Arrays) (shows : Shows ts ls st s) (orderly : Orderly (s .rows) (s .arities)) (given : ℕ) (all : given ≡ length ts) (few : given ≤ 256) (keys : List ℕ) (keys-are : keys ≡ keysOf given (s .vertices) (s .symbols) (s .rows) (s .labels)) where
   abbrev arguments : ℕ → List ℕ
   arguments v = termAt (tableOf ts st) v .arguments
 

@@ -18,24 +18,19 @@ use Rattle.tables.specs.Colours.{inUse, occursIn, colourable, shared}
 use Rattle.tables.specs.Read.{filled, colourNumber}
 use Rattle.tables.proofs.Words.{and-left, and-right, passed}
 use Rattle.tables.proofs.Terms.{symbols-append}
-use Rattle.tables.proofs.Filled.{filled-at}
+use Rattle.tables.proofs.Filled.{filled-at, length-map-below}
 use Rattle.closure.specs.Graph.{Graph, label}
 use Rattle.closure.specs.declared.Edge.{Edge}
 use Rattle.closure.specs.declared.EdgeKind.{EdgeKind}
 use Rattle.closure.specs.Steps.{State, tableOf, vertex, withEdge}
 use Rattle.graphs.specs.Layout.{edgesOf, labelsOf}
-use Rattle.running.specs.Shown.{padded, rowFor, column, Shows, withTerm}
+use Rattle.running.specs.Shown.{padded, rowFor, column, Shows, withTerm, regraphed}
 use Rattle.running.specs.Keys.{noRow}
 use Rattle.running.specs.declared.Row.{Row}
 use Rattle.graphs.specs.declared.graph.Graph.{Graph as Kept}
 use Rattle.running.specs.declared.state.State.{State as Arrays}
 use Rattle.running.proofs.Arrays.{filled-next}
 use Rattle.graphs.proofs.LabelArray.{label-at, labels-edge}
-
--- the arrays with another graph and other labels
-abbrev pub regraphed : Arrays → Kept → List ℕ → Arrays
-regraphed s g labels =
-    record { terms = s .terms; symbols = s .symbols; arities = s .arities; rows = s .rows; colours = s .colours; vertices = s .vertices; graph = g; labels = labels }
 
 -- the rule by which one edge changes a label
 abbrev pub relabelling : List ℕ → ℕ → ℕ → ℕ → ℕ
@@ -61,6 +56,11 @@ module _ (ts : List Term) (ls : List Literal) (st : State) (s : Arrays) (h : Sho
 
   pub shown-vertex : (v : ℕ) → v < length (tableOf ts st) → getD (s .vertices) v false ≡ vertex ts ls st v
   shown-vertex v l = ap (λ (xs : List Bool). getD xs v false) (h .vertices) ∙ filled-at (vertex ts ls st) 511 false (length (tableOf ts st)) v false l (h .within)
+
+  -- there are 511 labels
+  pub shown-length : length (s .labels) ≡ 511
+  unfolding labelsOf
+  shown-length = ap length (h .labels) ∙ length-map-below (label (st .graph)) 511
 
   -- a given term is a term of the table
   pub given-within : (v : ℕ) → v < length ts → v < length (tableOf ts st)

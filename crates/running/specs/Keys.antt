@@ -3,7 +3,7 @@ use mathlib.Core.Bool.{Bool, false, cond, not, _&&_}
 use mathlib.Core.List.{List, []}
 use mathlib.Core.Option.{Option, some, none}
 use mathlib.Core.Path.{_≡_}
-use Prim.Native.Nat.{ℕ, _+_, _*_, _≤_, _<_}
+use Prim.Native.Nat.{ℕ, _+_, _*_, _%_, _≤_, _<_}
 use lib.Dec.{T, eqb}
 use lib.ListN.{length, getD}
 use Rattle.tables.specs.Words.{Pair, pair}
@@ -42,6 +42,11 @@ unfolding keyOf
 keysOf given vertices symbols rows labels =
     filled 256 0 given (λ t. cond (getD vertices t false) (keyOf labels (getD symbols t 0) (getD rows t noRow .args) + 1) 0)
 
+-- an end for each residue of a key: a given term stands before the end of its key's residue, and no end is past the given terms
+pub record EndsOf (keys : List ℕ) (given : ℕ) (ends : List ℕ) : Type 0 where
+  pub before : (t : ℕ) → t < given → t < getD ends (getD keys t 0 % 1021) 0
+  pub within : (r : ℕ) → getD ends r 0 ≤ given
+
 -- t may be a partner of s, by what is looked at before the rows are: both have the key of s, its symbol, and not its label
 unfoldable pub candidate : List ℕ → List ℕ → List ℕ → ℕ → ℕ → Bool
 candidate keys symbols labels s t =
@@ -59,10 +64,15 @@ pairOf (Of s t) = some (pair s t)
 pairOf NoPair = none
 
 -- every row can be looked up, and no arity is over 4
-pub record Orderly (s : Arrays) : Type 0 where
-  pub rows : RowsWithin (s .rows)
-  pub arities : (v : ℕ) → v < 511 → getD (s .arities) v 0 ≤ 4
+pub record Orderly (all : List Row) (numbers : List ℕ) : Type 0 where
+  pub rows : RowsWithin all
+  pub arities : (v : ℕ) → v < 511 → getD numbers v 0 ≤ 4
 
 -- row 4 of the checks: a symbol has one arity
 abbrev pub OneArity : List Term → Type 0
 OneArity ts = (s t : ℕ) → s < length ts → t < length ts → termAt ts s .symbol ≡ termAt ts t .symbol → length (termAt ts s .arguments) ≡ length (termAt ts t .arguments)
+
+-- the arrays of a state, with those that the search is lent
+abbrev pub searched : Arrays → List ℕ → List ℕ → List Bool → List ℕ → List Row → Arrays
+searched s labels symbols vertices arities rows =
+    record { terms = s .terms; symbols = symbols; arities = arities; rows = rows; colours = s .colours; vertices = vertices; graph = s .graph; labels = labels }

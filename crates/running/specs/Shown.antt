@@ -9,6 +9,7 @@ use Rattle.tables.specs.LiteralTable.{Literal}
 use Rattle.tables.specs.Read.{filled, colourNumber}
 use Rattle.closure.specs.Steps.{State, tableOf, vertex}
 use Rattle.graphs.specs.Layout.{edgesOf, labelsOf}
+use Rattle.graphs.specs.declared.graph.Graph.{Graph as Kept}
 use Rattle.running.specs.declared.Row.{Row}
 use Rattle.running.specs.declared.state.State.{State as Arrays}
 
@@ -39,3 +40,8 @@ pub record Shows (ts : List Term) (ls : List Literal) (st : State) (s : Arrays) 
 -- one added term more
 abbrev pub withTerm : State → Term → State
 withTerm st m = record { added = st .added ++ (m ∷ []); graph = st .graph }
+
+-- the arrays with another graph and other labels
+abbrev pub regraphed : Arrays → Kept → List ℕ → Arrays
+regraphed s g labels =
+    record { terms = s .terms; symbols = s .symbols; arities = s .arities; rows = s .rows; colours = s .colours; vertices = s .vertices; graph = g; labels = labels }

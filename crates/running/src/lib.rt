@@ -1,6 +1,7 @@
 // The library's own run of closure steps over the tables read, as code on arrays.
 
 mod congruence;
+mod edge;
 pub mod run;
 mod search;
 pub mod state;

@@ -1,6 +1,7 @@
 // "The library's own run".
 
 use super::Row;
+use super::edge;
 use super::search;
 use super::search::Pair;
 use super::state::State;
@@ -74,10 +75,11 @@ fn basic_steps(t: Tables, start: State) -> State
     while i < count {
         let left = t.lefts[i];
         let right = t.rights[i];
-        let labels = st.labels;
-        if (t.kinds[i] == 1) & (labels[left as usize] != labels[right as usize]) {
+        if (t.kinds[i] == 1) & (st.labels[left as usize] != st.labels[right as usize]) {
             let side = side_of(t.sides[i]);
-            st = st.with_edge(left, right, side, EdgeKind::Basic);
+            let graph = st.graph;
+            let grown = edge::joined_on(&mut st.labels, graph, left, right, side, EdgeKind::Basic);
+            st.graph = grown;
         }
         i += 1;
     }
@@ -92,7 +94,15 @@ fn derived_steps(start: State, given: usize) -> Stepped
     let mut st = start;
     let mut turns = given;
     while 0 < turns {
-        let found = search::first_pair(st, given);
+        let rows = st.rows;
+        let found = search::first_pair(
+            &st.labels,
+            &st.symbols,
+            &st.vertices,
+            &st.arities,
+            rows,
+            given,
+        );
         let Pair::Of(s, t) = found else {
             return Stepped {
                 stuck: false,

@@ -1,7 +1,7 @@
 // "the first pair (s below t, smallest s, then smallest t) among the given terms in use"
 
+use super::Row;
 use super::congruence;
-use super::state::State;
 ghost use mathlib.Core.List.{List};
 ghost use mathlib.Core.Path.{_≡_};
 ghost use Prim.Native.Nat.{_<_, _≤_};
@@ -11,7 +11,8 @@ ghost use Rattle.tables.specs.LiteralTable.{Literal};
 ghost use Rattle.closure.specs.Steps.{State as Reached};
 ghost use Rattle.closure.specs.OwnRun.{firstPair};
 ghost use Rattle.running.specs.Shown.{Shows};
-ghost use Rattle.running.specs.Keys.{candidate, NextFrom, pairOf, Orderly, OneArity};
+ghost use Rattle.running.specs.Keys.{EndsOf, candidate, NextFrom, pairOf, Orderly, OneArity, searched};
+ghost use Rattle.running.specs.declared.state.State.{State as Arrays};
 
 // A number that a search finds.
 pub enum Next {
@@ -25,16 +26,32 @@ pub enum Pair {
     Nothing,
 }
 
+// Keys that are alike have one residue, so a search among them may stop behind the last term of its residue: one more than that term's number.
+fn ends(keys: &[u64; 256], given: usize) -> [u16; 1021]
+    requires { ⌜ given ≤ 256 ⌝ }
+    ensures { λ r. ⌜ EndsOf (now (keys .entry)) given r ⌝ }
+{
+    let mut all = [0u16; 1021];
+    let mut t = 0;
+    while t < given {
+        let residue = (keys[t] % 1021) as usize;
+        t += 1;
+        all[residue] = t as u16;
+    }
+    all
+}
+
 // The next term from a place on that may be a partner of s: the rows are not looked at.
 fn partner(
     keys: &[u64; 256],
+    ends: &[u16; 1021],
     symbols: &[u16; 511],
     labels: &[u16; 511],
     given: usize,
     s: usize,
     from: usize,
 ) -> Next
-    requires { ⌜ (given ≤ 256) × (s < given) ⌝ }
+    requires { ⌜ (given ≤ 256) × (s < given) × EndsOf (now keys) given (now ends) ⌝ }
     ensures { λ r. ⌜ NextFrom (candidate (now (keys .entry)) (now (symbols .entry)) (now (labels .entry)) s) from given r ⌝ }
 {
     let key = keys[s];
@@ -43,8 +60,9 @@ fn partner(
     if key == 0 {
         return Next::Nothing;
     }
+    let end = ends[(key % 1021) as usize] as usize;
     let mut t = from;
-    while t < given {
+    while t < end {
         if key == keys[t] && (symbol == symbols[t]) & (label != labels[t]) {
             return Next::At(t);
         }
@@ -53,23 +71,26 @@ fn partner(
     Next::Nothing
 }
 
-// The key is a filter only, so the rows are copied for few pairs; behind a pair that they refuse the search goes on.
-pub fn first_pair(st: State, given: usize) -> Pair
-    requires { ⌜ (given ≤ 256) × Orderly st ⌝ }
-    ensures { λ r. ⌜ ((ts : List Term) (ls : List Literal) (reached : Reached) → Shows ts ls reached st → given ≡ length ts → OneArity ts → pairOf r ≡ firstPair ts ls reached) ⌝ }
+// The arrays are lent. The key is a filter only, so the rows are copied for few pairs; behind a pair that they refuse the search goes on.
+pub fn first_pair<'a>(
+    labels: &'a [u16; 511],
+    symbols: &'a [u16; 511],
+    vertices: &'a [bool; 511],
+    arities: &'a [u8; 511],
+    rows: [Row; 511],
+    given: usize,
+) -> Pair
+    requires { ⌜ (given ≤ 256) × Orderly rows (now arities) ⌝ }
+    ensures { λ r. ⌜ ((ts : List Term) (ls : List Literal) (reached : Reached) (st : Arrays) → Shows ts ls reached (searched st (now (labels .entry)) (now (symbols .entry)) (now (vertices .entry)) (now (arities .entry)) rows) → given ≡ length ts → OneArity ts → pairOf r ≡ firstPair ts ls reached) ⌝ }
 {
-    let labels = st.labels;
-    let rows = st.rows;
-    let symbols = st.symbols;
-    let vertices = st.vertices;
-    let arities = st.arities;
-    let keys = congruence::keys(given, &vertices, &symbols, rows, &labels);
+    let keys = congruence::keys(given, vertices, symbols, rows, labels);
+    let ends = ends(&keys, given);
     let mut s = 0;
     let mut from = 1;
     while s < given {
-        let found = partner(&keys, &symbols, &labels, given, s, from);
+        let found = partner(&keys, &ends, symbols, labels, given, s, from);
         if let Next::At(t) = found {
-            if congruence::congruent(rows, &labels, arities[s] as usize, s, t) {
+            if congruence::congruent(rows, labels, arities[s] as usize, s, t) {
                 return Pair::Of(s, t);
             }
             from = t + 1;

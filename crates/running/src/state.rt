@@ -1,10 +1,9 @@
 // What a run has made so far: the table of given and added terms, the graph, and the label of each term.
 
 use super::Row;
-use closure::Edge;
+use super::edge;
 use closure::EdgeKind;
 use graphs::graph::Graph;
-use graphs::labels;
 use tables::Side;
 ghost use mathlib.Core.List.{List, [], _∷_, _++_};
 ghost use mathlib.Core.Path.{_≡_};
@@ -41,18 +40,8 @@ impl State {
         requires { ⌜ (left < 511) × (right < 511) × (self .graph .count < 510) ⌝ }
         ensures { λ r. ⌜ ((ts : List Term) (ls : List Literal) (st : Reached) → Shows ts ls st self → Shows ts ls (withEdge st left right colour kind) r) ⌝ }
     {
-        let old = self.labels;
-        let from = old[right as usize];
-        let to = old[left as usize];
-        let new = labels::relabelled(old, from, to);
         let graph = self.graph;
-        let grown = graph.with_edge(Edge {
-            left,
-            right,
-            colour,
-            kind,
-        });
-        self.labels = new;
+        let grown = edge::joined_on(&mut self.labels, graph, left, right, colour, kind);
         self.graph = grown;
         self
     }

@@ -140,8 +140,7 @@ fn tied(st: State, s: u16, m: u16, colour: Side) -> State
     requires { ⌜ (s < 511) × (m < 511) × ((getD (st .labels) s 0 ≡ getD (st .labels) m 0 → ⊥) → st .graph .count < 510) ⌝ }
     ensures { λ r. ⌜ ((ts : List Term) (ls : List Literal) (reached : Reached) → Shows ts ls reached st → Shows ts ls (tiedIn reached s m colour) r) ⌝ }
 {
-    let labels = st.labels;
-    if labels[s as usize] == labels[m as usize] {
+    if st.labels[s as usize] == st.labels[m as usize] {
         return st;
     }
     st.with_edge(s, m, colour, EdgeKind::Derived)

@@ -8,6 +8,7 @@ use Rattle.tables.specs.TermTable.{termsOf}
 use Rattle.tables.specs.LiteralTable.{literalsOf}
 use Rattle.running.specs.declared.state.State.{State as Arrays}
 use Rattle.running.specs.Opening.{ReadFrom, Opens}
+use Rattle.running.proofs.Showing.{shown-length}
 use Rattle.running.proofs.BasicSteps.{ShowsAfter, literals-fit, sides-small, after-none, after-all, after-edges, turn-taken, turn-left}
 use Rattle.running.proofs.run.basic_steps.Statement.{statement}
 use Rattle.running.proofs.run.basic_steps.Tie as tie
@@ -34,11 +35,11 @@ element-copy-out-right : tie.Need-element-copy-out-right Inv-loop μ-loop
 element-copy-out-right c = omega (arith, literals-fit (c .before .before .before .args .t1) (c .before .before .before .pre .0))
 
 element-copy-out-if1 : tie.Need-element-copy-out-if1 Inv-loop μ-loop
-element-copy-out-if1 c = omega (arith, literals-fit (c .before .before .before .before .before .args .t1) (c .before .before .before .before .before .pre .0))
+element-copy-out-if1 c = omega (arith, literals-fit (c .before .before .before .before .args .t1) (c .before .before .before .before .pre .0))
 
 -- the sides of a record fit the label array
-small : (c : tie.After-if12 Inv-loop μ-loop) → (getD (c .before .before .before .before .before .before .args .t1 .lefts) (c .before .before .before .before .before .loop .i) 0 < 256) × (getD (c .before .before .before .before .before .before .args .t1 .rights) (c .before .before .before .before .before .loop .i) 0 < 256)
-small c = sides-small (c .before .before .before .before .before .before .args .t1) (c .before .before .before .before .before .before .pre .0) (c .before .before .before .before .before .loop .i) (c .before .before .before .before .loop-test .taken)
+small : (c : tie.After-if12 Inv-loop μ-loop) → (getD (c .before .before .before .before .before .args .t1 .lefts) (c .before .before .before .before .loop .i) 0 < 256) × (getD (c .before .before .before .before .before .args .t1 .rights) (c .before .before .before .before .loop .i) 0 < 256)
+small c = sides-small (c .before .before .before .before .before .args .t1) (c .before .before .before .before .before .pre .0) (c .before .before .before .before .loop .i) (c .before .before .before .loop-test .taken)
 
 cast-if1 : tie.Need-cast-if1 Inv-loop μ-loop
 cast-if1 c = omega (arith, small c .0)
@@ -46,31 +47,32 @@ cast-if1 c = omega (arith, small c .0)
 mul-if1 : tie.Need-mul-if1 Inv-loop μ-loop
 mul-if1 c = omega (arith, small c .0)
 
-array-read-if1 : tie.Need-array-read-if1 Inv-loop μ-loop
-array-read-if1 c = omega (arith, small c .0)
+element-copy-out-if1-2 : tie.Need-element-copy-out-if1-2 Inv-loop μ-loop
+element-copy-out-if1-2 c = omega (arith, small c .0)
 
 cast-if1-2 : tie.Need-cast-if1-2 Inv-loop μ-loop
-cast-if1-2 c = omega (arith, small c .1)
+cast-if1-2 c = omega (arith, small (c .before) .1)
 
 mul-if1-2 : tie.Need-mul-if1-2 Inv-loop μ-loop
-mul-if1-2 c = omega (arith, small c .1)
+mul-if1-2 c = omega (arith, small (c .before) .1)
 
-array-read-if1-2 : tie.Need-array-read-if1-2 Inv-loop μ-loop
-array-read-if1-2 c = omega (arith, small c .1)
+element-copy-out-if1-3 : tie.Need-element-copy-out-if1-3 Inv-loop μ-loop
+element-copy-out-if1-3 c = omega (arith, small (c .before) .1)
 
 element-copy-out-side-of : tie.Need-element-copy-out-side-of Inv-loop μ-loop
-element-copy-out-side-of c = omega (arith, literals-fit (c .before .before .before .before .before .before .before .args .t1) (c .before .before .before .before .before .before .before .pre .0))
+element-copy-out-side-of c = omega (arith, literals-fit (c .before .before .before .before .before .before .before .before .args .t1) (c .before .before .before .before .before .before .before .before .pre .0))
 
 side-of-requires : tie.Need-side-of-requires Inv-loop μ-loop
 side-of-requires c κs = tt
 
-with-edge-requires : tie.Need-with-edge-requires Inv-loop μ-loop
-with-edge-requires c κs =
-    let start = c .before .before .before .before .before .before .before .before .before in
-    let more = c .before .before .before .before .before .before .before .loop-test .taken in
-    let i = c .before .before .before .before .before .before .before .before .loop .i in
-    let sides = sides-small (start .args .t1) (start .pre .0) i more in
-    (omega (arith, sides .0), omega (arith, sides .1), omega (arith, after-edges (start .args .t1) (start .pre .0) i _ (c .before .before .before .before .before .before .before .before .loop .inv .1 (start .pre .0) (start .pre .1)) more))
+joined-on-requires : tie.Need-joined-on-requires Inv-loop μ-loop
+joined-on-requires c κs =
+    let from = c .before .before .before .before .before .before .before .before .before .before .before .before .pre .0 in
+    let i = c .before .before .before .before .before .before .before .before .before .before .before .loop .i in
+    let more = c .before .before .before .before .before .before .before .before .before .before .loop-test .taken in
+    let shows = c .before .before .before .before .before .before .before .before .before .before .before .loop .inv .1 from (c .before .before .before .before .before .before .before .before .before .before .before .before .pre .1) in
+    let sides = sides-small (c .before .before .before .before .before .before .before .before .before .before .before .before .args .t1) from i more in
+    (shown-length (termsOf (from .terms)) (literalsOf (from .literals)) _ _ shows, omega (arith, sides .0), omega (arith, sides .1), omega (arith, after-edges (c .before .before .before .before .before .before .before .before .before .before .before .before .args .t1) from i (c .before .before .before .before .before .before .before .before .before .before .before .loop .st) shows more))
 
 add-i : tie.Need-add-i Inv-loop μ-loop
 add-i c = omega arith
@@ -80,15 +82,15 @@ loop-less c = omega arith
 
 loop-again : tie.Need-loop-again Inv-loop μ-loop
 loop-again c =
-    let start = c .before .before .before .before .before .before .before in
-    let more = c .before .before .before .before .before .loop-test .taken in
-    let i = c .before .before .before .before .before .before .loop .i in
-    let inv = c .before .before .before .before .before .before .loop .inv .1 in (
+    let t = c .before .before .before .before .before .before .before .before .args .t1 in
+    let i = c .before .before .before .before .before .before .before .loop .i in
+    let more = c .before .before .before .before .before .before .loop-test .taken in
+    let inv = c .before .before .before .before .before .before .before .loop .inv .1 in (
       omega arith,
       λ from h. ⊎-elim
-          (λ w. subst (λ (s : Arrays). ShowsAfter (start .args .t1) from (i + 1) s) (sym (w .4))
-          (turn-taken (start .args .t1) from i more _ (inv from h) (w .0 .taken) (w .2 .result) (w .2 .ensures) (w .3 .result) (λ st shows. w .3 .ensures (termsOf (from .terms)) (literalsOf (from .literals)) st shows)))
-          (λ w. subst (λ (s : Arrays). ShowsAfter (start .args .t1) from (i + 1) s) (sym (w .1)) (turn-left (start .args .t1) from i more _ (inv from h) (w .0 .left)))
+          (λ w. subst (λ (s : Arrays). ShowsAfter t from (i + 1) s) (sym (w .6))
+          (turn-taken t from i more (c .before .before .before .before .before .before .before .loop .st) (inv from h) (w .0 .taken) (w .2 .result) (w .2 .ensures) _ (λ st shows. w .5 .ensures (termsOf (from .terms)) (literalsOf (from .literals)) st (c .before .before .before .before .before .before .before .loop .st) shows)))
+          (λ w. subst (λ (s : Arrays). ShowsAfter t from (i + 1) s) (sym (w .1)) (turn-left t from i more (c .before .before .before .before .before .before .before .loop .st) (inv from h) (w .0 .left)))
           (c .if1 .came),
     )
 
@@ -109,13 +111,13 @@ basic-steps-spec =
     element-copy-out-if1
     cast-if1
     mul-if1
-    array-read-if1
+    element-copy-out-if1-2
     cast-if1-2
     mul-if1-2
-    array-read-if1-2
+    element-copy-out-if1-3
     element-copy-out-side-of
     side-of-requires
-    with-edge-requires
+    joined-on-requires
     add-i
     loop-less
     loop-again

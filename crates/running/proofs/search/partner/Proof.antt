@@ -1,19 +1,21 @@
 -- `running::search::partner` meets its contract. The invariant: no term from the place on was a candidate. The measure is what is left of them.
 use mathlib.Core.Logic.{⊎-elim}
-use Prim.Native.Nat.{ℕ, _-_, _≤_, _<_}
+use Prim.Native.Nat.{ℕ, _-_, _%_, _≤_, _<_}
 use native.Mathlib.Omega.{arith}
 use lib.Dec.{T}
+use lib.ListN.{getD}
 use Rattle.running.specs.Keys.{candidate}
 use Rattle.running.proofs.Candidates.{no-candidate, other-key, other-test, is-candidate, not-next}
+use Rattle.running.proofs.Ends.{before-end}
 use Rattle.running.proofs.search.partner.Statement.{statement}
 use Rattle.running.proofs.search.partner.Tie as tie
 
 abbrev Inv-loop : tie.InvT-loop
-Inv-loop keys symbols labels given s from key symbol label t₀ t =
-    (from ≤ t) × ((k : ℕ) → from ≤ k → k < t → T (candidate keys symbols labels s k) → ⊥)
+Inv-loop keys ends symbols labels given s from key symbol label end t₀ t =
+    (from ≤ t) × (end ≤ given) × ((k : ℕ) → from ≤ k → k < t → T (candidate keys symbols labels s k) → ⊥)
 
 abbrev μ-loop : tie.MeasureT-loop
-μ-loop keys symbols labels given s from key symbol label t₀ t = given - t
+μ-loop keys ends symbols labels given s from key symbol label end t₀ t = end - t
 
 mul-key : tie.Need-mul-key Inv-loop μ-loop
 mul-key c = omega arith
@@ -36,8 +38,17 @@ element-copy-out-label c = omega arith
 returns : tie.Need-returns Inv-loop μ-loop
 returns c k l h = no-candidate _ _ _ _ _ (c .if1 .taken)
 
+mul-end : tie.Need-mul-end Inv-loop μ-loop
+mul-end c = omega arith
+
+element-copy-out-end : tie.Need-element-copy-out-end Inv-loop μ-loop
+element-copy-out-end c = omega arith
+
+cast-end : tie.Need-cast-end Inv-loop μ-loop
+cast-end c = omega (arith, c .before .before .before .before .before .pre .2 .within (getD (c .before .before .before .before .before .args .keys .now) (c .before .before .before .before .before .args .s) 0 % 1021))
+
 loop-holds : tie.Need-loop-holds Inv-loop μ-loop
-loop-holds c = (omega arith, λ k l h. absurd (omega arith))
+loop-holds c = (omega arith, c .before .before .before .before .before .pre .2 .within _, λ k l h. absurd (omega arith))
 
 mul-if2 : tie.Need-mul-if2 Inv-loop μ-loop
 mul-if2 c = omega arith
@@ -60,7 +71,7 @@ element-copy-out-if3-2 c = omega arith
 returns-2 : tie.Need-returns-2 Inv-loop μ-loop
 returns-2 c =
     let inv = c .before .before .before .before .before .before .loop .inv in
-    (omega (arith, inv .0), omega arith, is-candidate _ _ _ _ _ (c .before .before .before .before .before .before .before .if1 .left) (c .before .before .before .if2 .taken) (c .if3 .taken), inv .1)
+    (omega (arith, inv .0), omega (arith, inv .1), is-candidate _ _ _ _ _ (c .before .before .before .before .before .before .before .before .if1 .left) (c .before .before .before .if2 .taken) (c .if3 .taken), inv .2)
 
 add-t : tie.Need-add-t Inv-loop μ-loop
 add-t c = omega arith
@@ -71,10 +82,10 @@ loop-less c = omega arith
 loop-again : tie.Need-loop-again Inv-loop μ-loop
 loop-again c =
     let inv = c .before .before .before .loop .inv in
-    (omega arith, not-next _ _ _ (inv .1) (⊎-elim (λ w. other-test _ _ _ _ _ (w .3 .left)) (λ w. other-key _ _ _ _ _ (w .left)) (c .if2 .came)))
+    (omega arith, inv .1, not-next _ _ _ (inv .2) (⊎-elim (λ w. other-test _ _ _ _ _ (w .3 .left)) (λ w. other-key _ _ _ _ _ (w .left)) (c .if2 .came)))
 
 returns-3 : tie.Need-returns-3 Inv-loop μ-loop
-returns-3 c k l h = c .before .loop .inv .1 k l (omega arith)
+returns-3 c k l h w = c .before .loop .inv .2 k l (omega (arith, before-end _ _ _ _ _ _ k (c .before .before .before .before .before .before .before .pre .2) h w)) w
 
 pub partner-spec : {M : Type 1} → statement M
 partner-spec =
@@ -89,6 +100,9 @@ partner-spec =
     mul-label
     element-copy-out-label
     returns
+    mul-end
+    element-copy-out-end
+    cast-end
     loop-holds
     mul-if2
     element-copy-out-if2
