@@ -28,8 +28,8 @@ use Rattle.closure.proofs.Walking.Parents.{SoundHop, hop-sound, path-hop, paren
 use Rattle.closure.proofs.Walking.Places.{basic-parents, joined-place, place-parent, parent-place}
 use Rattle.closure.proofs.Walking.ParentPaths.{sound-forest}
 use Rattle.marking.specs.declared.drawing.Drawing.{Drawing}
-use Rattle.marking.specs.Marks.{isB, Reached, end-of, across, along, EdgeReached, PairWithin, Marked, Covered, Owed, Trailed, done, step, Within, Wanted}
-use Rattle.marking.specs.Drawn.{isDerived, EdgeAt, Drawn, DrawnSome, InOrder, EdgeSettled, Settled}
+use Rattle.marking.specs.Marks.{isB, Reached, end-of, across, along, EdgeReached, PairWithin, Marked, Covered, InOrder, Owed, Trailed, done, step, Within, RowsOf, Wanted}
+use Rattle.marking.specs.Drawn.{isDerived, EdgeAt, Drawn, DrawnSome, EdgeSettled, Settled}
 use Rattle.marking.proofs.Squares.{same-or-not}
 use Rattle.marking.proofs.Reached.{edge-parents, wants-owed, owed-kept, reached-owed}
 
@@ -111,22 +111,27 @@ module _ (arrays : Drawing) (ts : List Term) (ls : List Literal) (table : List T
   pub record PathRead (u v hi : ℕ) (stops edges : List ℕ) : Type 0 where
     pub within : Within stops edges 0 hi
     pub trailed : Trailed (arrays .inb) stops edges hi 0 (path G u v)
-    pub in-table : u < length table → (k : ℕ) → k ≤ hi → getD stops k 0 < length table
+    pub in-table : (k : ℕ) → k ≤ hi → getD stops k 0 < length table
 
   -- its trail and its range
-  pub path-read : (u v : ℕ) → u < 511 → T (joined G u v) → (r : Trail) → TrailOf G u v r → PathRead u v (r .hops) (r .stops) (r .edges)
+  pub path-read : (u v : ℕ) → u < length table → T (joined G u v) → (r : Trail) → TrailOf G u v r → PathRead u v (r .hops) (r .stops) (r .edges)
   path-read u v low j r t =
       let w = path-walk G u v j in
-      let range : (h : Hop) → HopOf h G → (h .to < 511) × (length (h .older) < 510) = λ h of. (omega (arith, hop-sound ts ls table of (d .sound) .to-within, d .small), omega (arith, older-fewer of, d .counted, d .few)) in
-      let in-range = walk-stops G 511 510 range low w in
+      let range : (h : Hop) → HopOf h G → (h .to < length table) × (length (h .older) < 510) = λ h of. (hop-sound ts ls table of (d .sound) .to-within, omega (arith, older-fewer of, d .counted, d .few)) in
+      let in-range = walk-stops G (length table) 510 range low w in
       let S : (k : ℕ) → k ≤ length (path G u v) → getD (r .stops) k 0 ≡ getD (vertices u (path G u v)) k 0 = λ k l. sym (getD-take (r .hops + 1) (r .stops) k 0 (omega (arith, t .hops, l))) ∙ ap (λ (x : List ℕ). getD x k 0) (t .stops) in
       let E : (k : ℕ) → k < length (path G u v) → getD (r .edges) k 0 ≡ getD (map number (path G u v)) k 0 = λ k l. sym (getD-take (r .hops) (r .edges) k 0 (omega (arith, t .hops, l))) ∙ ap (λ (x : List ℕ). getD x k 0) (t .edges) in
       let none : (k : ℕ) → 0 + k ≡ k = λ k. omega arith in
+      let in-table : (k : ℕ) → k ≤ r .hops → getD (r .stops) k 0 < length table = λ k l. subst (λ (x : ℕ). x < length table) (sym (S k (omega (arith, t .hops, l)))) (in-range .0 k (omega (arith, t .hops, l))) in
       record {
-        within = record { forward = omega arith; short = t .within; stops-low = λ k l. subst (λ (x : ℕ). x < 511) (sym (S k (omega (arith, t .hops, l)))) (in-range .0 k (omega (arith, t .hops, l))); edges-low = λ k l. subst (λ (x : ℕ). x < 510) (sym (E k (omega (arith, t .hops, l)))) (in-range .1 k (omega (arith, t .hops, l))) };
+        within = record { forward = omega arith; short = t .within; stops-low = λ k l. omega (arith, in-table k l, d .small); edges-low = λ k l. subst (λ (x : ℕ). x < 510) (sym (E k (omega (arith, t .hops, l)))) (in-range .1 k (omega (arith, t .hops, l))) };
         trailed = walk-trailed (arrays .inb) (r .stops) (r .edges) (r .hops) G (λ h of. hop-colour (arrays .lefts) (arrays .rights) (arrays .inb) (arrays .derived) G (d .edges) of) 0 w (omega (arith, t .hops)) (λ k l. ap (λ (m : ℕ). getD (r .stops) m 0) (none k) ∙ S k l) (λ k l. ap (λ (m : ℕ). getD (r .edges) m 0) (none k) ∙ E k l);
-        in-table = λ low k l. subst (λ (x : ℕ). x < length table) (sym (S k (omega (arith, t .hops, l)))) (walk-stops G (length table) 510 (λ h of. (hop-sound ts ls table of (d .sound) .to-within, range h of .1)) low w .0 k (omega (arith, t .hops, l)));
+        in-table = in-table;
       }
+
+  -- a square with a row for each vertex has the row of each stop
+  pub path-rows : {u v hi : ℕ} {stops edges : List ℕ} (size : ℕ) → 511 * length table ≤ size → PathRead u v hi stops edges → RowsOf size stops hi
+  path-rows size h r = record { row = λ k l. omega (arith, r .in-table k l) }
 
   -- the arguments of a vertex stand at its four places
   pub arguments-long : (v : ℕ) → v < length table → length (termAt table v .arguments) ≡ getD (arrays .arities) v 0
@@ -171,8 +176,8 @@ module _ (arrays : Drawing) (ts : List Term) (ls : List Literal) (table : List T
 
   -- what the arguments at place k of a derived edge are
   pub record Paired (i k : ℕ) (H : Graph) (h : Hop) : Type 0 where
-    pub left-small : leftAt arrays i k < 511
-    pub right-small : rightAt arrays i k < 511
+    pub left-low : leftAt arrays i k < length table
+    pub right-low : rightAt arrays i k < length table
     pub right-used : k < getD (arrays .arities) (getD (arrays .rights) i 0) 0
     pub join : T (joined G (leftAt arrays i k) (rightAt arrays i k))
     pub is-parent : List·Memᴰ (path G (leftAt arrays i k) (rightAt arrays i k)) (parentPaths table h)
@@ -221,8 +226,8 @@ module _ (arrays : Drawing) (ts : List Term) (ls : List Literal) (table : List T
         let in-left = d .lower (getD (arrays .lefts) i 0) (r .left-low) (getD xs k 0) (getD-mem xs k 0 within) in
         let in-right = d .lower (getD (arrays .rights) i 0) (r .right-low) (getD ys k 0) (getD-mem ys k 0 (x .0)) in
         record {
-          left-small = omega (arith, in-left, a, r .left-low, d .small);
-          right-small = omega (arith, in-right, b, r .right-low, d .small);
+          left-low = omega (arith, in-left, a, r .left-low);
+          right-low = omega (arith, in-right, b, r .right-low);
           right-used = used;
           join = older-joined (leftAt arrays i k) (rightAt arrays i k) (r .walked) j;
           is-parent = subst (λ (π : Path). List·Memᴰ π (parentPaths table hopI)) same (place-parent ts ls table hopI hop-is kind-derived (getD (arrays .lefts) i 0) (getD (arrays .rights) i 0) (r .left-is) (r .right-is) k within);
@@ -259,21 +264,23 @@ module _ (arrays : Drawing) (i : ℕ) (b mode : Bool) where
 
   -- the paths between the first j arguments are read
   pub record EdgeTo (pairs₀ rows₀ inside₀ under₀ : List Bool) (j : ℕ) (pairs rows inside under : List Bool) : Type 0 where
-    pub in-order : InOrder pairs rows inside under
+    pub same : length pairs ≡ length pairs₀
+    pub in-order : InOrder rows inside under
     pub cover : Covered pairs₀ rows₀ → Covered pairs rows
     pub owed : (ts : List Term) (ls : List Literal) (table : List Term) (G : Graph) → DrawnAs ts ls table G → (p : Pair) → PairWithin 511 p → Owed table G b pairs inside under i p ↔ (Owed table G b pairs₀ inside₀ under₀ i p ⊎ ((k : ℕ) × (k < j) × Reached table b p mode (path G (leftAt arrays i k) (rightAt arrays i k))))
 
   -- no argument yet
-  pub edge-none : (pairs rows inside under : List Bool) → InOrder pairs rows inside under → EdgeTo pairs rows inside under 0 pairs rows inside under
+  pub edge-none : (pairs rows inside under : List Bool) → InOrder rows inside under → EdgeTo pairs rows inside under 0 pairs rows inside under
   edge-none pairs rows inside under o =
-      record { in-order = o; cover = λ c. c; owed = λ ts ls table G d p w. (inl, λ x. ⊎-elim (λ y. y) (λ y. absurd (not-suc-le-zero (y .1))) x) }
+      record { same = refl; in-order = o; cover = λ c. c; owed = λ ts ls table G d p w. (inl, λ x. ⊎-elim (λ y. y) (λ y. absurd (not-suc-le-zero (y .1))) x) }
 
   module _ (h : i < arrays .count) (is : getD (arrays .derived) i false ≡ true) (pairs₀ rows₀ inside₀ under₀ : List Bool) where
     -- one argument more
     pub edge-more : (j : ℕ) (pairs rows inside under pairs′ rows′ inside′ under′ : List Bool) (stops edges : List ℕ) (hops : ℕ) → j < arityAt arrays i → ((ts : List Term) (ls : List Literal) (table : List Term) (G : Graph) → DrawnAs ts ls table G → Trailed (arrays .inb) stops edges hops 0 (path G (leftAt arrays i j) (rightAt arrays i j))) → EdgeTo pairs₀ rows₀ inside₀ under₀ j pairs rows inside under → Wanted (arrays .inb) stops edges 0 hops b mode pairs rows inside under pairs′ rows′ inside′ under′ → EdgeTo pairs₀ rows₀ inside₀ under₀ (j + 1) pairs′ rows′ inside′ under′
     edge-more j pairs rows inside under pairs′ rows′ inside′ under′ stops edges hops l trail x w =
         record {
-          in-order = record { square = w .square; inside-sized = w .inside-sized; under-sized = w .under-sized };
+          same = w .same ∙ x .same;
+          in-order = w .in-order;
           cover = λ c. w .cover (x .cover c);
           owed = λ ts ls table G d p v. (λ y. to ts ls table G d p v y, λ y. from ts ls table G d p v y);
         }
@@ -307,12 +314,17 @@ module _ (arrays : Drawing) (i : ℕ) (b mode : Bool) where
     pub edge-all : (j : ℕ) (pairs rows inside under : List Bool) → j ≡ arityAt arrays i → EdgeTo pairs₀ rows₀ inside₀ under₀ j pairs rows inside under → EdgeSettled arrays i b mode pairs₀ rows₀ inside₀ under₀ pairs rows inside under
     edge-all j pairs rows inside under e x =
         record {
+          same = x .same;
           in-order = x .in-order;
           cover = x .cover;
           owed = λ ts ls table G d p v. let y = x .owed ts ls table G d p v in let r = paired-reached arrays ts ls table G d i h is b mode p in (λ z. ⊎-elim inl (λ q. inr (r .1 (q .0, omega (arith, q .1, e), q .2))) (y .0 z), λ z. y .1 (⊎-elim inl (λ q. let t = r .0 q in inr (t .0, omega (arith, t .1, e), t .2)) z));
         }
 
 -- ---- what the code needs of the arrays
+
+-- a square that stays as long has the rows still
+pub drawn-kept : (arrays : Drawing) (size size′ : ℕ) → size′ ≡ size → DrawnSome arrays size → DrawnSome arrays size′
+drawn-kept arrays size size′ e s = (s .0, s .1, s .2, s .3, s .4, omega (arith, e, s .5))
 
 -- joined vertices, in the rooted forest
 pub joins : (arrays : Drawing) (ts : List Term) (ls : List Literal) (table : List Term) (G : Graph) → Drawn arrays ts ls table G → {u v : ℕ} → T (joined G u v) → Joining (arrays .toward) (arrays .by) (arrays .rank) u v G
@@ -327,8 +339,8 @@ module _ (arrays : Drawing) (i : ℕ) (h : i < arrays .count) where
     pub arity-low : arityAt arrays i ≤ 4
 
   -- they are, where a graph is drawn
-  pub bounds : DrawnSome arrays → Bounds
-  bounds s =
+  pub bounds : (size : ℕ) → DrawnSome arrays size → Bounds
+  bounds size s =
       let d = s .4 in
       let r = edge-read arrays (s .0) (s .1) (s .2) (s .3) d i h in
       record {
@@ -344,16 +356,16 @@ module _ (arrays : Drawing) (i : ℕ) (h : i < arrays .count) where
     joining ts ls table G d = joins arrays ts ls table G d (paired arrays ts ls table G d i h is j l .join)
 
     -- so the path between them is asked for
-    pub path-asked : DrawnSome arrays → (leftAt arrays i j < 511) × (rightAt arrays i j < 511) × ((G : Graph) × Joining (arrays .toward) (arrays .by) (arrays .rank) (leftAt arrays i j) (rightAt arrays i j) G)
-    path-asked s =
+    pub path-asked : (size : ℕ) → DrawnSome arrays size → (leftAt arrays i j < 511) × (rightAt arrays i j < 511) × ((G : Graph) × Joining (arrays .toward) (arrays .by) (arrays .rank) (leftAt arrays i j) (rightAt arrays i j) G)
+    path-asked size s =
         let p = paired arrays (s .0) (s .1) (s .2) (s .3) (s .4) i h is j l in
-        (p .left-small, p .right-small, (s .3, joining (s .0) (s .1) (s .2) (s .3) (s .4)))
+        (omega (arith, p .left-low, s .4 .small), omega (arith, p .right-low, s .4 .small), (s .3, joining (s .0) (s .1) (s .2) (s .3) (s .4)))
 
     -- and read
     pub path-given : (r : Trail) → ((G : Graph) → Joining (arrays .toward) (arrays .by) (arrays .rank) (leftAt arrays i j) (rightAt arrays i j) G → TrailOf G (leftAt arrays i j) (rightAt arrays i j) r) → (ts : List Term) (ls : List Literal) (table : List Term) (G : Graph) (d : Drawn arrays ts ls table G) → PathRead arrays ts ls table G d (leftAt arrays i j) (rightAt arrays i j) (r .hops) (r .stops) (r .edges)
     path-given r t ts ls table G d =
         let p = paired arrays ts ls table G d i h is j l in
-        path-read arrays ts ls table G d (leftAt arrays i j) (rightAt arrays i j) (p .left-small) (p .join) r (t G (joining ts ls table G d))
+        path-read arrays ts ls table G d (leftAt arrays i j) (rightAt arrays i j) (p .left-low) (p .join) r (t G (joining ts ls table G d))
 
 -- ---- the pass over the edges
 
@@ -403,20 +415,22 @@ module _ (arrays : Drawing) (b : Bool) where
   -- the edges from number i on are read
   pub record SettledTo (pairs₀ rows₀ inside₀ under₀ : List Bool) (i : ℕ) (pairs rows inside under : List Bool) : Type 0 where
     pub within : i ≤ arrays .count
-    pub in-order : InOrder pairs rows inside under
+    pub same : length pairs ≡ length pairs₀
+    pub in-order : InOrder rows inside under
     pub cover : Covered pairs₀ rows₀ → Covered pairs rows
     pub owed : (ts : List Term) (ls : List Literal) (table : List Term) (G : Graph) → Drawn arrays ts ls table G → (p : Pair) → PairWithin 511 p → Owed table G b pairs inside under i p ↔ Owed table G b pairs₀ inside₀ under₀ (arrays .count) p
 
   -- no edge yet
-  pub settle-none : (pairs rows inside under : List Bool) → InOrder pairs rows inside under → SettledTo pairs rows inside under (arrays .count) pairs rows inside under
-  settle-none pairs rows inside under o = record { within = omega arith; in-order = o; cover = λ c. c; owed = λ ts ls table G d p w. (λ x. x, λ x. x) }
+  pub settle-none : (pairs rows inside under : List Bool) → InOrder rows inside under → SettledTo pairs rows inside under (arrays .count) pairs rows inside under
+  settle-none pairs rows inside under o = record { within = omega arith; same = refl; in-order = o; cover = λ c. c; owed = λ ts ls table G d p w. (λ x. x, λ x. x) }
 
   module _ (pairs₀ rows₀ inside₀ under₀ : List Bool) (n : ℕ) (pairs rows inside under : List Bool) (some : 0 < n) (x : SettledTo pairs₀ rows₀ inside₀ under₀ n pairs rows inside under) where
     -- a turn at the edge n - 1 after which what is owed below it is what was, and what the edge owed
-    settle-turn : (pairs′ rows′ inside′ under′ : List Bool) → InOrder pairs′ rows′ inside′ under′ → (Covered pairs rows → Covered pairs′ rows′) → ((ts : List Term) (ls : List Literal) (table : List Term) (G : Graph) → Drawn arrays ts ls table G → (p : Pair) → PairWithin 511 p → Owed table G b pairs′ inside′ under′ (n - 1) p ↔ (Owed table G b pairs inside under (n - 1) p ⊎ OwedBy table G b inside under (n - 1) p)) → SettledTo pairs₀ rows₀ inside₀ under₀ (n - 1) pairs′ rows′ inside′ under′
-    settle-turn pairs′ rows′ inside′ under′ o c f =
+    settle-turn : (pairs′ rows′ inside′ under′ : List Bool) → length pairs′ ≡ length pairs → InOrder rows′ inside′ under′ → (Covered pairs rows → Covered pairs′ rows′) → ((ts : List Term) (ls : List Literal) (table : List Term) (G : Graph) → Drawn arrays ts ls table G → (p : Pair) → PairWithin 511 p → Owed table G b pairs′ inside′ under′ (n - 1) p ↔ (Owed table G b pairs inside under (n - 1) p ⊎ OwedBy table G b inside under (n - 1) p)) → SettledTo pairs₀ rows₀ inside₀ under₀ (n - 1) pairs′ rows′ inside′ under′
+    settle-turn pairs′ rows′ inside′ under′ e o c f =
         record {
           within = omega (arith, x .within);
+          same = e ∙ x .same;
           in-order = o;
           cover = λ y. c (x .cover y);
           owed = λ ts ls table G d p w. let s = owed-split table G b pairs inside under n (n - 1) p (omega arith) in let g = f ts ls table G d p w in let y = x .owed ts ls table G d p w in (λ z. y .0 (s .1 (g .0 z)), λ z. g .1 (s .0 (y .1 z)));
@@ -425,25 +439,25 @@ module _ (arrays : Drawing) (b : Bool) where
     -- an edge whose parent paths are read whole: that covers their premises' clauses
     settle-whole : (pairs′ rows′ inside′ under′ : List Bool) → getD inside (n - 1) false ≡ true → EdgeSettled arrays (n - 1) b true pairs rows inside under pairs′ rows′ inside′ under′ → SettledTo pairs₀ rows₀ inside₀ under₀ (n - 1) pairs′ rows′ inside′ under′
     settle-whole pairs′ rows′ inside′ under′ e s =
-        settle-turn pairs′ rows′ inside′ under′ (s .in-order) (s .cover)
+        settle-turn pairs′ rows′ inside′ under′ (s .same) (s .in-order) (s .cover)
         (λ ts ls table G d p w. let y = s .owed ts ls table G d p w in (λ z. ⊎-elim inl (λ q. inr (inl (passes (getD inside (n - 1) false) e, q))) (y .0 z), λ z. y .1 (⊎-elim inl (λ q. inr (⊎-elim (λ a. a .1) (λ a. (a .1 .0, a .1 .1, a .1 .2, (a .1 .3 .0, a .1 .3 .1, reached-more (a .1 .3 .2)))) q)) z)))
 
     -- an edge whose parent paths' own factors do not count
     settle-under : (pairs′ rows′ inside′ under′ : List Bool) → getD inside (n - 1) false ≡ false → getD under (n - 1) false ≡ true → EdgeSettled arrays (n - 1) b false pairs rows inside under pairs′ rows′ inside′ under′ → SettledTo pairs₀ rows₀ inside₀ under₀ (n - 1) pairs′ rows′ inside′ under′
     settle-under pairs′ rows′ inside′ under′ e u s =
-        settle-turn pairs′ rows′ inside′ under′ (s .in-order) (s .cover)
+        settle-turn pairs′ rows′ inside′ under′ (s .same) (s .in-order) (s .cover)
         (λ ts ls table G d p w. let y = s .owed ts ls table G d p w in (λ z. ⊎-elim inl (λ q. inr (inr (passes (getD under (n - 1) false) u, q))) (y .0 z), λ z. y .1 (⊎-elim inl (λ q. inr (⊎-elim (λ a. absurd (subst T e (a .0))) (λ a. a .1) q)) z)))
 
     -- an edge that is not marked
     settle-unmarked : getD inside (n - 1) false ≡ false → getD under (n - 1) false ≡ false → SettledTo pairs₀ rows₀ inside₀ under₀ (n - 1) pairs rows inside under
     settle-unmarked e u =
-        settle-turn pairs rows inside under (x .in-order) (λ c. c)
+        settle-turn pairs rows inside under refl (x .in-order) (λ c. c)
         (λ ts ls table G d p w. (inl, λ z. ⊎-elim (λ y. y) (λ q. absurd (⊎-elim (λ a. subst T e (a .0)) (λ a. subst T u (a .0)) q)) z))
 
     -- an edge that is not derived
     settle-basic : getD (arrays .derived) (n - 1) false ≡ false → SettledTo pairs₀ rows₀ inside₀ under₀ (n - 1) pairs rows inside under
     settle-basic e =
-        settle-turn pairs rows inside under (x .in-order) (λ c. c)
+        settle-turn pairs rows inside under refl (x .in-order) (λ c. c)
         (λ ts ls table G d p w. (inl, λ z. ⊎-elim (λ y. y) (λ q. absurd (⊎-elim (λ a. basic-nothing (arrays .lefts) (arrays .rights) (arrays .inb) (arrays .derived) table G (d .edges) b true p (n - 1) e (a .1)) (λ a. basic-nothing (arrays .lefts) (arrays .rights) (arrays .inb) (arrays .derived) table G (d .edges) b false p (n - 1) e (a .1)) q)) z))
 
     -- an edge whose parent paths are asked for
@@ -469,6 +483,7 @@ module _ (arrays : Drawing) (b : Bool) where
   pub settle-all : (pairs₀ rows₀ inside₀ under₀ : List Bool) (i : ℕ) (pairs rows inside under : List Bool) → i ≤ 0 → SettledTo pairs₀ rows₀ inside₀ under₀ i pairs rows inside under → Settled arrays b pairs₀ rows₀ inside₀ under₀ pairs rows inside under
   settle-all pairs₀ rows₀ inside₀ under₀ i pairs rows inside under e x =
       record {
+        same = x .same;
         in-order = x .in-order;
         cover = x .cover;
         marks = λ ts ls table G d p w. let y = x .owed ts ls table G d p w in (λ m. y .0 (inl m), λ m. ⊎-elim (λ z. z) (λ z. absurd (omega (arith, z .1, e))) (y .1 m));

@@ -3,7 +3,7 @@ use mathlib.Core.Bool.{Bool, true, false}
 use mathlib.Core.List.{List}
 use mathlib.Core.Logic.{_⊎_, inl, inr, ⊎-elim, _↔_}
 use mathlib.Core.Path.{_≡_, sym, ap, subst, _∙_}
-use Prim.Native.Nat.{ℕ, _≤_, _<_}
+use Prim.Native.Nat.{ℕ, _+_, _*_, _≤_, _<_}
 use native.Mathlib.Omega.{arith}
 use lib.Dec.{T, eqb, eqb→eq, eqb-refl}
 use lib.ListN.{length, getD, set, length-set}
@@ -11,7 +11,7 @@ use lib.Seq.{getD-set-same, getD-set-other}
 use Rattle.tables.specs.Words.{Pair, pair}
 use Rattle.tables.proofs.Words.{passes, by-test}
 use Rattle.clauses.specs.Clauses.{between}
-use Rattle.marking.specs.Marks.{PairWithin, placeOf, PairMarked, Marked, Square, PairAdded}
+use Rattle.marking.specs.Marks.{PairWithin, placeOf, PairMarked, Marked, PairAdded}
 use Rattle.clauses.proofs.Order.{between-cases, between-either}
 
 -- ---- marks
@@ -59,12 +59,17 @@ between-above u v h = ⊎-elim (λ c. absurd (omega (arith, c .0))) (λ c. c .1)
 pub between-square : (u v : ℕ) → u < 511 → v < 511 → InSquare (between u v)
 between-square u v h k = between-either InSquare u v (h, k) (k, h)
 
+-- its place is in a square that has the rows of both
+pub between-place : (u v size : ℕ) → u < 511 → v < 511 → 511 * u + 511 ≤ size → 511 * v + 511 ≤ size → placeOf (between u v) < size
+between-place u v size h k hu hv = between-either (λ p. placeOf p < size) u v (omega arith) (omega arith)
+
 -- one mark more in the square, and in its row
-pub pair-added : (q : Pair) (pairs rows : List Bool) (i j : ℕ) → i ≡ placeOf q → j ≡ q .left → InSquare q → Square pairs rows → PairAdded q pairs rows (set pairs i true) (set rows j true)
-pair-added q pairs rows i j ei ej h n =
-    let more : (p : Pair) → PairWithin 511 p → PairMarked (set pairs i true) p ↔ (PairMarked pairs p ⊎ (p ≡ q)) = λ p w. let r = marked-more pairs i (placeOf p) (omega (arith, ei, h .0, h .1, n .0)) in (λ x. ⊎-elim inl (λ e. inr (one-place p q (within-square p w) h (e ∙ ei))) (r .0 x), λ x. r .1 (⊎-elim inl (λ e. inr (ap placeOf e ∙ sym ei)) x)) in
+pub pair-added : (q : Pair) (pairs rows : List Bool) (i j : ℕ) → i ≡ placeOf q → j ≡ q .left → InSquare q → placeOf q < length pairs → length rows ≡ 511 → PairAdded q pairs rows (set pairs i true) (set rows j true)
+pair-added q pairs rows i j ei ej h f n =
+    let more : (p : Pair) → PairWithin 511 p → PairMarked (set pairs i true) p ↔ (PairMarked pairs p ⊎ (p ≡ q)) = λ p w. let r = marked-more pairs i (placeOf p) (omega (arith, ei, f)) in (λ x. ⊎-elim inl (λ e. inr (one-place p q (within-square p w) h (e ∙ ei))) (r .0 x), λ x. r .1 (⊎-elim inl (λ e. inr (ap placeOf e ∙ sym ei)) x)) in
     record {
-      square = (length-set pairs i true ∙ n .0, length-set rows j true ∙ n .1);
+      same = length-set pairs i true;
+      rows-sized = length-set rows j true ∙ n;
       added = more;
-      cover = λ c p w x. marked-more rows j (p .left) (omega (arith, ej, h .0, n .1)) .1 (⊎-elim (λ y. inl (c p w y)) (λ e. inr (ap (λ (z : Pair). z .left) e ∙ sym ej)) (more p w .0 x));
+      cover = λ c p w x. marked-more rows j (p .left) (omega (arith, ej, h .0, n)) .1 (⊎-elim (λ y. inl (c p w y)) (λ e. inr (ap (λ (z : Pair). z .left) e ∙ sym ej)) (more p w .0 x));
     }

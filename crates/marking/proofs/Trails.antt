@@ -3,7 +3,7 @@ use mathlib.Core.Bool.{Bool, true, false, not, Bool·beq}
 use mathlib.Core.List.{List, [], _∷_, _++_, List·Memᴰ, List·Memᴰ·head, List·Memᴰ·tail, List·Memᴰ·not-nil, List·Memᴰ·cases-cons}
 use mathlib.Core.Logic.{_⊎_, inl, inr, ⊎-elim, _↔_}
 use mathlib.Core.Path.{_≡_, refl, sym, ap, ap₂, subst, _∙_}
-use Prim.Native.Nat.{ℕ, suc, _+_, _≤_, _<_}
+use Prim.Native.Nat.{ℕ, suc, _+_, _*_, _≤_, _<_}
 use native.Mathlib.Nat.{eq-or-lt-of-le}
 use native.Mathlib.Omega.{arith}
 use borrow.Author.Tests.{not-false}
@@ -17,7 +17,7 @@ use Rattle.clauses.specs.Clauses.{between}
 use Rattle.clauses.specs.Factors.{Factor, alone, factors}
 use Rattle.clauses.specs.Premises.{endsOf}
 use Rattle.clauses.specs.Reading.{endOf}
-use Rattle.marking.specs.Marks.{isB, EndOf, Trailed, done, step, Within, StretchEnd}
+use Rattle.marking.specs.Marks.{isB, EndOf, Trailed, done, step, Within, RowsOf, StretchEnd}
 use Rattle.clauses.proofs.Factors.{Alternate, stretchOf, factors-front}
 use Rattle.clauses.proofs.Pieces.{alternate-alone, alternate-front, endOf-none, endOf-hop}
 
@@ -158,6 +158,10 @@ module _ (inb : List Bool) (stops edges : List ℕ) (hi : ℕ) where
         behind = c .behind;
         ends = λ b p. (λ e. ⊎-elim (λ q. inl (w ∙ ap (λ (f : Factor). isB (f .colour)) (sym q) ∙ e .2, e .3 ∙ ap endsOf q ∙ here)) (λ m. inr (e .0, m, e .2, e .3)) (List·Memᴰ·cases-cons (subst (List·Memᴰ (e .0)) parts (e .1))), λ e. ⊎-elim (λ q. (stretchOf h (c .front), subst (List·Memᴰ (stretchOf h (c .front))) (sym parts) (List·Memᴰ·head refl), sym w ∙ q .0, q .1 ∙ sym here)) (λ m. (m .0, subst (List·Memᴰ (m .0)) (sym parts) (List·Memᴰ·tail (m .1)), m .2, m .3)) e);
       }
+
+-- a square that stays as long has the rows of a part of the stops too
+pub rows-part : (size size′ : ℕ) (stops : List ℕ) (hops hi : ℕ) → hi ≤ hops → size′ ≡ size → RowsOf size stops hops → RowsOf size′ stops hi
+rows-part size size′ stops hops hi h e w = record { row = λ k l. omega (arith, e, w .row k (omega (arith, l))) }
 
 -- a part of a trail is within the arrays too
 pub within-part : (stops edges : List ℕ) (hops lo hi : ℕ) → lo ≤ hi → hi ≤ hops → Within stops edges 0 hops → Within stops edges lo hi

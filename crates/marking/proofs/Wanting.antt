@@ -11,7 +11,7 @@ use lib.ListN.{length, getD, set, length-set}
 use Rattle.tables.specs.Words.{Pair}
 use Rattle.closure.specs.Graph.{Hop, Path}
 use Rattle.clauses.specs.Clauses.{between}
-use Rattle.marking.specs.Marks.{isB, EndOf, EdgeOf, PairWithin, PairMarked, Marked, Trailed, done, step, StretchEnd, Covered, Square, PairAdded, FactorsAdded, EdgesAdded, Wanted}
+use Rattle.marking.specs.Marks.{isB, EndOf, EdgeOf, PairWithin, PairMarked, Marked, Trailed, done, step, StretchEnd, Covered, PairAdded, FactorsAdded, EdgesAdded, Wanted}
 use Rattle.marking.proofs.Squares.{marked-more}
 use Rattle.clauses.proofs.Pieces.{no-factor}
 use Rattle.marking.proofs.Trails.{colourAt, flags-differ, trailed-forward, first-factor}
@@ -27,13 +27,14 @@ module _ (inb : List Bool) (stops edges : List ℕ) (lo hi : ℕ) (b : Bool) whe
   pub record FactorsUpTo (pairs₀ rows₀ : List Bool) (at : ℕ) (pairs rows : List Bool) : Type 0 where
     pub after : lo ≤ at
     pub within : at ≤ hi
-    pub square : Square pairs rows
+    pub same : length pairs ≡ length pairs₀
+    pub rows-sized : length rows ≡ 511
     pub cover : Covered pairs₀ rows₀ → Covered pairs rows
     pub reads : (π : Path) → Trailed inb stops edges hi lo π → (ρ : Path) × Trailed inb stops edges hi at ρ × ((p : Pair) → PairWithin 511 p → (PairMarked pairs₀ p ⊎ EndOf b π p) ↔ (PairMarked pairs p ⊎ EndOf b ρ p))
 
   -- none yet
-  pub factors-none : (pairs rows : List Bool) → lo ≤ hi → Square pairs rows → FactorsUpTo pairs rows lo pairs rows
-  factors-none pairs rows h s = record { after = omega arith; within = h; square = s; cover = λ c. c; reads = λ π t. (π, t, λ p w. (λ x. x, λ x. x)) }
+  pub factors-none : (pairs rows : List Bool) → lo ≤ hi → length rows ≡ 511 → FactorsUpTo pairs rows lo pairs rows
+  factors-none pairs rows h s = record { after = omega arith; within = h; same = refl; rows-sized = s; cover = λ c. c; reads = λ π t. (π, t, λ p w. (λ x. x, λ x. x)) }
 
   module _ (pairs₀ rows₀ pairs rows : List Bool) (at r : ℕ) (s : StretchEnd inb edges at hi r) (u : FactorsUpTo pairs₀ rows₀ at pairs rows) where
     -- a factor of the colour: its ends are marked
@@ -42,7 +43,8 @@ module _ (inb : List Bool) (stops edges : List ℕ) (lo hi : ℕ) (b : Bool) whe
         record {
           after = omega (arith, u .after, s .begins);
           within = s .inside;
-          square = m .square;
+          same = m .same ∙ u .same;
+          rows-sized = m .rows-sized;
           cover = λ c. m .cover (u .cover c);
           reads = λ π t. let y = u .reads π t in let f = first-factor inb stops edges hi r s (y .1) in (f .rest, f .behind, λ p w. (λ x. ⊎-elim (λ z. inl (m .added p w .1 (inl z))) (λ z. ⊎-elim (λ q. inl (m .added p w .1 (inr (q .1)))) inr (f .ends b p .0 z)) (y .2 p w .0 x), λ x. y .2 p w .1 (⊎-elim (λ z. ⊎-elim inl (λ q. inr (f .ends b p .1 (inl (e, q)))) (m .added p w .0 z)) (λ z. inr (f .ends b p .1 (inr z))) x)));
         }
@@ -53,7 +55,8 @@ module _ (inb : List Bool) (stops edges : List ℕ) (lo hi : ℕ) (b : Bool) whe
         record {
           after = omega (arith, u .after, s .begins);
           within = s .inside;
-          square = u .square;
+          same = u .same;
+          rows-sized = u .rows-sized;
           cover = u .cover;
           reads = λ π t. let y = u .reads π t in let f = first-factor inb stops edges hi r s (y .1) in (f .rest, f .behind, λ p w. (λ x. ⊎-elim inl (λ z. ⊎-elim (λ q. absurd (d (q .0))) inr (f .ends b p .0 z)) (y .2 p w .0 x), λ x. y .2 p w .1 (⊎-elim inl (λ z. inr (f .ends b p .1 (inr z))) x)));
         }
@@ -67,7 +70,8 @@ module _ (inb : List Bool) (stops edges : List ℕ) (lo hi : ℕ) (b : Bool) whe
   pub factors-all : (pairs₀ rows₀ pairs rows : List Bool) (at : ℕ) → hi ≤ at → FactorsUpTo pairs₀ rows₀ at pairs rows → FactorsAdded inb stops edges lo hi b pairs₀ rows₀ pairs rows
   factors-all pairs₀ rows₀ pairs rows at h u =
       record {
-        square = u .square;
+        same = u .same;
+        rows-sized = u .rows-sized;
         added = λ π t p w. let y = u .reads π t in (λ x. y .2 p w .1 (inl x), λ x. ⊎-elim (λ z. z) (λ z. absurd (no-end p h (y .1) z)) (y .2 p w .0 x));
         cover = u .cover;
       }
@@ -134,18 +138,19 @@ module _ (inb : List Bool) (stops edges : List ℕ) (lo hi : ℕ) (b : Bool) whe
 module _ (inb : List Bool) (stops edges : List ℕ) (lo hi : ℕ) (b mode : Bool) where
   -- the factors' ends are marked where they count
   pub record EndsDone (pairs rows pairs′ rows′ : List Bool) : Type 0 where
-    pub square : Square pairs′ rows′
+    pub same : length pairs′ ≡ length pairs
+    pub rows-sized : length rows′ ≡ 511
     pub cover : Covered pairs rows → Covered pairs′ rows′
     pub ends : (π : Path) → Trailed inb stops edges hi lo π → (p : Pair) → PairWithin 511 p → PairMarked pairs′ p ↔ (PairMarked pairs p ⊎ ((mode ≡ true) × EndOf b π p))
 
   -- where they count, the factors are marked
   pub ends-count : (pairs rows pairs′ rows′ : List Bool) → mode ≡ true → FactorsAdded inb stops edges lo hi b pairs rows pairs′ rows′ → EndsDone pairs rows pairs′ rows′
   ends-count pairs rows pairs′ rows′ e f =
-      record { square = f .square; cover = f .cover; ends = λ π t p w. let y = f .added π t p w in (λ x. ⊎-elim inl (λ z. inr (e, z)) (y .0 x), λ x. y .1 (⊎-elim inl (λ z. inr (z .1)) x)) }
+      record { same = f .same; rows-sized = f .rows-sized; cover = f .cover; ends = λ π t p w. let y = f .added π t p w in (λ x. ⊎-elim inl (λ z. inr (e, z)) (y .0 x), λ x. y .1 (⊎-elim inl (λ z. inr (z .1)) x)) }
 
   -- where they do not, nothing is
-  pub ends-left : (pairs rows : List Bool) → mode ≡ false → Square pairs rows → EndsDone pairs rows pairs rows
-  ends-left pairs rows e s = record { square = s; cover = λ c. c; ends = λ π t p w. (inl, λ x. ⊎-elim (λ z. z) (λ z. absurd (flags-differ true false refl (sym (z .0) ∙ e))) x) }
+  pub ends-left : (pairs rows : List Bool) → mode ≡ false → length rows ≡ 511 → EndsDone pairs rows pairs rows
+  ends-left pairs rows e s = record { same = refl; rows-sized = s; cover = λ c. c; ends = λ π t p w. (inl, λ x. ⊎-elim (λ z. z) (λ z. absurd (flags-differ true false refl (sym (z .0) ∙ e))) x) }
 
   -- the same lists under other names
   pub ends-named : (pairs rows pairs′ rows′ pairs″ rows″ : List Bool) → pairs″ ≡ pairs′ → rows″ ≡ rows′ → EndsDone pairs rows pairs′ rows′ → EndsDone pairs rows pairs″ rows″
@@ -170,9 +175,8 @@ module _ (inb : List Bool) (stops edges : List ℕ) (lo hi : ℕ) (b mode : Bool
   pub all-wanted : (pairs rows inside under pairs′ rows′ inside′ under′ : List Bool) → EndsDone pairs rows pairs′ rows′ → EdgesAdded inb stops edges lo hi (not b) inside inside′ → UnderDone under under′ → Wanted inb stops edges lo hi b mode pairs rows inside under pairs′ rows′ inside′ under′
   all-wanted pairs rows inside under pairs′ rows′ inside′ under′ e i u =
       record {
-        square = e .square;
-        inside-sized = i .sized;
-        under-sized = u .sized;
+        same = e .same;
+        in-order = record { rows-sized = e .rows-sized; inside-sized = i .sized; under-sized = u .sized };
         cover = e .cover;
         wants = λ π t. record { ends = e .ends π t; crossed = i .added π t; followed = u .followed π t };
       }

@@ -16,7 +16,7 @@ use Rattle.closure.specs.Forests.{Each}
 use Rattle.graphs.specs.Rooting.{RootedBy}
 use Rattle.closure.proofs.Walking.Invariant.{SoundGraph}
 use Rattle.marking.specs.declared.drawing.Drawing.{Drawing}
-use Rattle.marking.specs.Marks.{isB, PairWithin, PairMarked, Covered, Square, EdgeReached, Owed}
+use Rattle.marking.specs.Marks.{isB, PairWithin, PairMarked, Covered, InOrder, EdgeReached, Owed}
 
 -- the edge is derived
 abbrev pub isDerived : EdgeKind → Bool
@@ -43,30 +43,26 @@ pub record Drawn (arrays : Drawing) (ts : List Term) (ls : List Literal) (table 
   pub rooted : RootedBy G (arrays .toward) (arrays .by) (arrays .rank)
   pub edges : Each (EdgeAt (arrays .lefts) (arrays .rights) (arrays .inb) (arrays .derived)) G
 
--- they hold some graph
-abbrev pub DrawnSome : Drawing → Type 0
-DrawnSome arrays =
-    (ts : List Term) × (ls : List Literal) × (table : List Term) × (G : Graph) × Drawn arrays ts ls table G
+-- they hold some graph, and a square of so many marks has a row for each of its vertices
+abbrev pub DrawnSome : Drawing → ℕ → Type 0
+DrawnSome arrays size =
+    (ts : List Term) × (ls : List Literal) × (table : List Term) × (G : Graph) × Drawn arrays ts ls table G × (511 * length table ≤ size)
 
 -- the arrays, lent one by one
 abbrev pub drawing : List ℕ → List ℕ → List ℕ → List ℕ → List ℕ → List ℕ → List ℕ → List Bool → List Bool → ℕ → Drawing
 drawing args arities toward by rank lefts rights inb derived count =
     record { args = args; arities = arities; toward = toward; by = by; rank = rank; lefts = lefts; rights = rights; inb = inb; derived = derived; count = count }
 
--- the marks are in order: a square with its rows, and a mark for each edge
-pub record InOrder (pairs rows inside under : List Bool) : Type 0 where
-  pub square : Square pairs rows
-  pub inside-sized : length inside ≡ 510
-  pub under-sized : length under ≡ 510
-
 -- the parent paths of edge number i are read
 pub record EdgeSettled (arrays : Drawing) (i : ℕ) (b whole : Bool) (pairs rows inside under pairs′ rows′ inside′ under′ : List Bool) : Type 0 where
-  pub in-order : InOrder pairs′ rows′ inside′ under′
+  pub same : length pairs′ ≡ length pairs
+  pub in-order : InOrder rows′ inside′ under′
   pub cover : Covered pairs rows → Covered pairs′ rows′
   pub owed : (ts : List Term) (ls : List Literal) (table : List Term) (G : Graph) → Drawn arrays ts ls table G → (p : Pair) → PairWithin 511 p → Owed table G b pairs′ inside′ under′ i p ↔ (Owed table G b pairs inside under i p ⊎ EdgeReached table G b p whole i)
 
 -- the parent paths of all marked edges are read: what was owed is marked, and nothing else
 pub record Settled (arrays : Drawing) (b : Bool) (pairs rows inside under pairs′ rows′ inside′ under′ : List Bool) : Type 0 where
-  pub in-order : InOrder pairs′ rows′ inside′ under′
+  pub same : length pairs′ ≡ length pairs
+  pub in-order : InOrder rows′ inside′ under′
   pub cover : Covered pairs rows → Covered pairs′ rows′
   pub marks : (ts : List Term) (ls : List Literal) (table : List Term) (G : Graph) → Drawn arrays ts ls table G → (p : Pair) → PairWithin 511 p → PairMarked pairs′ p ↔ Owed table G b pairs inside under (arrays .count) p

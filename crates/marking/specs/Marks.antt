@@ -47,7 +47,7 @@ EdgeOf inb π k = (h : Hop) × List·Memᴰ h π × (isB (h .colour) ≡ inb) ×
 abbrev pub PairWithin : ℕ → Pair → Type 0
 PairWithin n p = (p .left < p .right) × (p .right < n)
 
--- the place of a pair in a square of 511 by 511
+-- the place of a pair in a square, whose rows are 511 long
 abbrev pub placeOf : Pair → ℕ
 placeOf p = 511 * p .left + p .right
 
@@ -95,19 +95,27 @@ pub record StretchEnd (inb : List Bool) (edges : List ℕ) (lo hi r : ℕ) : Typ
 abbrev pub Covered : List Bool → List Bool → Type 0
 Covered pairs rows = (p : Pair) → PairWithin 511 p → PairMarked pairs p → Marked rows (p .left)
 
--- a square of marks with a mark for each row
-abbrev pub Square : List Bool → List Bool → Type 0
-Square pairs rows = (length pairs ≡ 261121) × (length rows ≡ 511)
+-- a square of so many marks has the row of each stop up to place hi
+pub record RowsOf (size : ℕ) (stops : List ℕ) (hi : ℕ) : Type 0 where
+  pub row : (k : ℕ) → k ≤ hi → 511 * getD stops k 0 + 511 ≤ size
+
+-- the marks beside the square are in order: one for each row that it can have, and for each edge
+pub record InOrder (rows inside under : List Bool) : Type 0 where
+  pub rows-sized : length rows ≡ 511
+  pub inside-sized : length inside ≡ 510
+  pub under-sized : length under ≡ 510
 
 -- one pair more is marked, and its row
 pub record PairAdded (q : Pair) (pairs rows pairs′ rows′ : List Bool) : Type 0 where
-  pub square : Square pairs′ rows′
+  pub same : length pairs′ ≡ length pairs
+  pub rows-sized : length rows′ ≡ 511
   pub added : (p : Pair) → PairWithin 511 p → PairMarked pairs′ p ↔ (PairMarked pairs p ⊎ (p ≡ q))
   pub cover : Covered pairs rows → Covered pairs′ rows′
 
 -- the ends of a stretch's factors of a colour are marked too
 pub record FactorsAdded (inb : List Bool) (stops edges : List ℕ) (lo hi : ℕ) (b : Bool) (pairs rows pairs′ rows′ : List Bool) : Type 0 where
-  pub square : Square pairs′ rows′
+  pub same : length pairs′ ≡ length pairs
+  pub rows-sized : length rows′ ≡ 511
   pub added : (π : Path) → Trailed inb stops edges hi lo π → (p : Pair) → PairWithin 511 p → PairMarked pairs′ p ↔ (PairMarked pairs p ⊎ EndOf b π p)
   pub cover : Covered pairs rows → Covered pairs′ rows′
 
@@ -118,9 +126,8 @@ pub record EdgesAdded (inb : List Bool) (stops edges : List ℕ) (lo hi : ℕ) (
 
 -- what a stretch asks for is marked too
 pub record Wanted (inb : List Bool) (stops edges : List ℕ) (lo hi : ℕ) (b whole : Bool) (pairs rows inside under pairs′ rows′ inside′ under′ : List Bool) : Type 0 where
-  pub square : Square pairs′ rows′
-  pub inside-sized : length inside′ ≡ 510
-  pub under-sized : length under′ ≡ 510
+  pub same : length pairs′ ≡ length pairs
+  pub in-order : InOrder rows′ inside′ under′
   pub cover : Covered pairs rows → Covered pairs′ rows′
   pub wants : (π : Path) → Trailed inb stops edges hi lo π → Wants b whole π pairs inside under pairs′ inside′ under′
 

@@ -4,9 +4,9 @@ ghost use mathlib.Core.Path.{_≡_};
 ghost use Prim.Native.Nat.{_+_, _*_, _≤_, _<_};
 ghost use lib.ListN.{length};
 ghost use Rattle.clauses.specs.Clauses.{between};
-ghost use Rattle.marking.specs.Marks.{placeOf, Square, PairAdded, StretchEnd, Within, FactorsAdded, EdgesAdded, Wanted, OuterWanted};
+ghost use Rattle.marking.specs.Marks.{placeOf, RowsOf, InOrder, PairAdded, StretchEnd, Within, FactorsAdded, EdgesAdded, Wanted, OuterWanted};
 
-// The place of a pair of vertices in a square of 511 by 511, the lower one's row.
+// The place of a pair of vertices in a square whose rows are 511 long, the lower one's row.
 fn place(u: u16, v: u16) -> usize
     requires { ⌜ (u < 511) × (v < 511) ⌝ }
     ensures { λ r. ⌜ r ≡ placeOf (between u v) ⌝ }
@@ -19,9 +19,9 @@ fn place(u: u16, v: u16) -> usize
 }
 
 // Marks a pair, and its row, so that rows without a pair are passed over later.
-fn mark_pair(u: u16, v: u16, pairs: &mut [bool; 261121], rows: &mut [bool; 511])
-    requires { ⌜ (u < 511) × (v < 511) ⌝ }
-    requires { ⌜ Square (now pairs) (now rows) ⌝ }
+fn mark_pair(u: u16, v: u16, pairs: &mut [bool], rows: &mut [bool; 511])
+    requires { ⌜ (u < 511) × (v < 511) × (placeOf (between u v) < length (now pairs)) ⌝ }
+    requires { ⌜ length (now rows) ≡ 511 ⌝ }
     ensures { λ _. ⌜ PairAdded (between u v) (now (pairs .entry)) (now (rows .entry)) (now (pairs .exit)) (now (rows .exit)) ⌝ }
 {
     pairs[place(u, v)] = true;
@@ -65,11 +65,11 @@ fn want_factors(
     lo: usize,
     hi: usize,
     b: bool,
-    pairs: &mut [bool; 261121],
+    pairs: &mut [bool],
     rows: &mut [bool; 511],
 )
     requires { ⌜ Within (now stops) (now edges) lo hi ⌝ }
-    requires { ⌜ Square (now pairs) (now rows) ⌝ }
+    requires { ⌜ RowsOf (length (now pairs)) (now stops) hi × (length (now rows) ≡ 511) ⌝ }
     ensures { λ _. ⌜ FactorsAdded (now (inb .entry)) (now (stops .entry)) (now (edges .entry)) lo hi b (now (pairs .entry)) (now (rows .entry)) (now (pairs .exit)) (now (rows .exit)) ⌝ }
 {
     let mut at = lo;
@@ -117,14 +117,13 @@ pub fn want_along(
     hi: usize,
     b: bool,
     whole: bool,
-    pairs: &mut [bool; 261121],
+    pairs: &mut [bool],
     rows: &mut [bool; 511],
     inside: &mut [bool; 510],
     under: &mut [bool; 510],
 )
     requires { ⌜ Within (now stops) (now edges) lo hi ⌝ }
-    requires { ⌜ Square (now pairs) (now rows) ⌝ }
-    requires { ⌜ (length (now inside) ≡ 510) × (length (now under) ≡ 510) ⌝ }
+    requires { ⌜ RowsOf (length (now pairs)) (now stops) hi × InOrder (now rows) (now inside) (now under) ⌝ }
     ensures { λ _. ⌜ Wanted (now (inb .entry)) (now (stops .entry)) (now (edges .entry)) lo hi b whole (now (pairs .entry)) (now (rows .entry)) (now (inside .entry)) (now (under .entry)) (now (pairs .exit)) (now (rows .exit)) (now (inside .exit)) (now (under .exit)) ⌝ }
 {
     if whole {
@@ -144,14 +143,13 @@ pub fn want(
     hi: usize,
     b: bool,
     whole: bool,
-    pairs: &mut [bool; 261121],
+    pairs: &mut [bool],
     rows: &mut [bool; 511],
     inside: &mut [bool; 510],
     under: &mut [bool; 510],
 )
     requires { ⌜ Within (t .stops) (t .edges) lo hi ⌝ }
-    requires { ⌜ Square (now pairs) (now rows) ⌝ }
-    requires { ⌜ (length (now inside) ≡ 510) × (length (now under) ≡ 510) ⌝ }
+    requires { ⌜ RowsOf (length (now pairs)) (t .stops) hi × InOrder (now rows) (now inside) (now under) ⌝ }
     ensures { λ _. ⌜ Wanted (now (inb .entry)) (t .stops) (t .edges) lo hi b whole (now (pairs .entry)) (now (rows .entry)) (now (inside .entry)) (now (under .entry)) (now (pairs .exit)) (now (rows .exit)) (now (inside .exit)) (now (under .exit)) ⌝ }
 {
     let stops = t.stops;
@@ -178,14 +176,13 @@ pub fn want_outer(
     lo: usize,
     hi: usize,
     b: bool,
-    pairs: &mut [bool; 261121],
+    pairs: &mut [bool],
     rows: &mut [bool; 511],
     inside: &mut [bool; 510],
     under: &mut [bool; 510],
 )
     requires { ⌜ Within (t .stops) (t .edges) 0 (t .hops) × (lo ≤ hi) × (hi ≤ t .hops) ⌝ }
-    requires { ⌜ Square (now pairs) (now rows) ⌝ }
-    requires { ⌜ (length (now inside) ≡ 510) × (length (now under) ≡ 510) ⌝ }
+    requires { ⌜ RowsOf (length (now pairs)) (t .stops) (t .hops) × InOrder (now rows) (now inside) (now under) ⌝ }
     ensures { λ _. ⌜ OuterWanted (now (inb .entry)) (t .stops) (t .edges) lo hi (t .hops) b (now (pairs .entry)) (now (rows .entry)) (now (inside .entry)) (now (under .entry)) (now (pairs .exit)) (now (rows .exit)) (now (inside .exit)) (now (under .exit)) ⌝ }
 {
     let hops = t.hops;

@@ -5,8 +5,9 @@ use graphs::paths;
 ghost use mathlib.Core.Bool.{Bool, true, false, _&&_, _||_};
 ghost use mathlib.Core.Path.{_≡_};
 ghost use Prim.Native.Nat.{_<_};
-ghost use lib.ListN.{getD};
-ghost use Rattle.marking.specs.Drawn.{drawing, DrawnSome, InOrder, EdgeSettled, Settled};
+ghost use lib.ListN.{length, getD};
+ghost use Rattle.marking.specs.Drawn.{drawing, DrawnSome, EdgeSettled, Settled};
+ghost use Rattle.marking.specs.Marks.{InOrder};
 
 // What the parent paths of one derived edge ask for. The arrays are lent one by one, so that no edge copies them, and the paths are laid in the same
 // two arrays, one after the other.
@@ -24,13 +25,13 @@ fn settle_edge<'a>(
     i: usize,
     b: bool,
     whole: bool,
-    pairs: &mut [bool; 261121],
+    pairs: &mut [bool],
     rows: &mut [bool; 511],
     inside: &mut [bool; 510],
     under: &mut [bool; 510],
 )
-    requires { ⌜ DrawnSome (drawing (now args) (now arities) (now toward) (now by) (now rank) (now lefts) (now rights) (now inb) (now derived) count) ⌝ }
-    requires { ⌜ InOrder (now pairs) (now rows) (now inside) (now under) ⌝ }
+    requires { ⌜ DrawnSome (drawing (now args) (now arities) (now toward) (now by) (now rank) (now lefts) (now rights) (now inb) (now derived) count) (length (now pairs)) ⌝ }
+    requires { ⌜ InOrder (now rows) (now inside) (now under) ⌝ }
     requires { ⌜ (i < count) × (getD (now derived) i mathlib.Core.Bool.false ≡ true) ⌝ }
     ensures { λ _. ⌜ EdgeSettled (drawing (now (args .entry)) (now (arities .entry)) (now (toward .entry)) (now (by .entry)) (now (rank .entry)) (now (lefts .entry)) (now (rights .entry)) (now (inb .entry)) (now (derived .entry)) count) i b whole (now (pairs .entry)) (now (rows .entry)) (now (inside .entry)) (now (under .entry)) (now (pairs .exit)) (now (rows .exit)) (now (inside .exit)) (now (under .exit)) ⌝ }
 {
@@ -64,12 +65,12 @@ fn asked(derived: bool, inside: bool, under: bool) -> bool
 pub fn settle(
     d: Drawing,
     b: bool,
-    pairs: &mut [bool; 261121],
+    pairs: &mut [bool],
     rows: &mut [bool; 511],
     inside: &mut [bool; 510],
     under: &mut [bool; 510],
 )
-    requires { ⌜ DrawnSome d × InOrder (now pairs) (now rows) (now inside) (now under) ⌝ }
+    requires { ⌜ DrawnSome d (length (now pairs)) × InOrder (now rows) (now inside) (now under) ⌝ }
     ensures { λ _. ⌜ Settled d b (now (pairs .entry)) (now (rows .entry)) (now (inside .entry)) (now (under .entry)) (now (pairs .exit)) (now (rows .exit)) (now (inside .exit)) (now (under .exit)) ⌝ }
 {
     let mut i = d.count;

@@ -23,7 +23,7 @@ use Rattle.marking.specs.declared.drawing.Drawing.{Drawing}
 use Rattle.marking.specs.Marks.{Reached, PairWithin, PairMarked, Marked, Covered, Owed, Trailed, Wanted, OuterWanted}
 use Rattle.marking.specs.Drawn.{Drawn, Settled}
 use Rattle.summing.specs.Writing.{putRecord, putRecords, marked, rowPairs, PremisesOut, AllOut}
-use Rattle.summing.specs.Written.{clauseOf, clauseOut, RecordsPut, Clear, Readable, ReadableSome, ClausesPut, Over, Concluding, notAt, LastPut}
+use Rattle.summing.specs.Written.{clauseOf, clauseOut, RecordsPut, Clear, Blank, Readable, ReadableSome, ClausesPut, Over, Concluding, notAt, LastPut}
 use Rattle.marking.proofs.Reached.{reached-premise, premise-reached, wants-owed, owed-kept, reached-owed}
 use Rattle.clauses.proofs.Pieces.{records-clause, record-equals, record-differs, record-falsum, ascending-kept, among-mem}
 use Rattle.clauses.proofs.OneClause.{premise-within, premisesIn-mean}
@@ -112,15 +112,15 @@ module _ (arrays : Drawing) (n u v : ℕ) (less : u < v) (within : v < n) (small
       (λ y. ⊎-elim (λ z. absurd (none-owed arrays ts ls table G d true found c p k z)) (λ z. reached-premise table p z) (o .0 (m .0 y)), λ y. m .1 (o .1 (inr (premise-reached table p y))))
 
   -- one clause written: its premises, and the pair
-  pub clause-put : ReadableSome arrays n Here → (stops edges : List ℕ) (hops : ℕ) → ((ts : List Term) (ls : List Literal) (table : List Term) (G : Graph) → ReadableHere ts ls table G → Trailed (arrays .inb) stops edges hops 0 (path G u v)) → (found rows found₁ rows₁ inside₁ under₁ found₂ rows₂ inside₂ under₂ found₃ : List Bool) (at r : ℕ) (out out₁ : List ℕ) → Clear found → Wanted (arrays .inb) stops edges 0 hops true true found rows (replicate 510 false) (replicate 510 false) found₁ rows₁ inside₁ under₁ → Settled arrays true found₁ rows₁ inside₁ under₁ found₂ rows₂ inside₂ under₂ → AllOut n at found₂ out r found₃ out₁ → (out₂ : List ℕ) → out₂ ≡ putRecord r (clauseRecord 2 (pair u v)) out₁ → ClausesPut arrays n Here (pair u v ∷ []) 1 at out (r + 1) found₃ out₂
+  pub clause-put : ReadableSome arrays n Here → (stops edges : List ℕ) (hops : ℕ) → ((ts : List Term) (ls : List Literal) (table : List Term) (G : Graph) → ReadableHere ts ls table G → Trailed (arrays .inb) stops edges hops 0 (path G u v)) → (found rows found₁ rows₁ inside₁ under₁ found₂ rows₂ inside₂ under₂ found₃ : List Bool) (at r : ℕ) (out out₁ : List ℕ) → Clear found → Wanted (arrays .inb) stops edges 0 hops true true found rows (replicate 510 false) (replicate 510 false) found₁ rows₁ inside₁ under₁ → Settled arrays true found₁ rows₁ inside₁ under₁ found₂ rows₂ inside₂ under₂ → AllOut n at found₂ out r found₃ out₁ → (out₂ : List ℕ) → out₂ ≡ putRecord r (clauseRecord 2 (pair u v)) out₁ → ClausesPut arrays n Here (pair u v ∷ []) 1 at found out (r + 1) found₃ out₂
   unfolding clauseOut clauseOf flatMap
   clause-put some stops edges hops trail found rows found₁ rows₁ inside₁ under₁ found₂ rows₂ inside₂ under₂ found₃ at r out out₁ c w s a out₂ e₂ =
       let marks : (ts : List Term) (ls : List Literal) (table : List Term) (G : Graph) → ReadableHere ts ls table G → (p : Pair) → PairWithin 511 p → PairMarked found₂ p ↔ Premise table p (path G u v) = λ ts ls table G x p k. premises-marked ts ls table G x stops edges hops (trail ts ls table G x) found rows found₁ rows₁ inside₁ under₁ found₂ rows₂ inside₂ under₂ c w s p k in
-      subst (ClausesPut arrays n Here (pair u v ∷ []) 1 at out (r + 1) found₃) (sym e₂)
+      subst (ClausesPut arrays n Here (pair u v ∷ []) 1 at found out (r + 1) found₃) (sym e₂)
       (record {
         few = omega (arith, a .few);
         same = put-length r (clauseRecord 2 (pair u v)) out₁ (record-length 2 (pair u v)) ∙ premises-length (keep (marked found₂) (pairsBelow n)) at out r out₁ (a .premises);
-        sized = a .sized;
+        sized = a .sized ∙ s .same ∙ w .same;
         clear = λ p k m. let y = a .left-over p k .0 m in let x = some .4 in let z = premise-within (some .0) (some .1) (some .2) p (x .drawn .sound) (path-is (some .3) u v (x .connected (pair u v) (less, within) refl)) (marks (some .0) (some .1) (some .2) (some .3) x p k .0 (y .0)) in omega (arith, y .1, z .1, x .terms);
         written = λ ts ls table G x. let e = marked-ascending n found₂ (premises (length G) table (path G u v)) small (λ p k. let f = marks ts ls table G x p k in let g = premisesIn-mean ts ls table G u v p in (λ y. g .1 (f .0 y), λ y. f .1 (g .0 y))) in let q = records-more (map (clauseRecord 1) (keep (marked found₂) (pairsBelow n))) (clauseRecord 2 (pair u v)) at out r out₁ (premises-put (keep (marked found₂) (pairsBelow n)) at out r out₁ (a .premises)) in subst (λ (rs : List (List ℕ)). RecordsPut rs at out (r + 1) (putRecord r (clauseRecord 2 (pair u v)) out₁)) (sym (append-nil (clauseOut n table G (pair u v)) ∙ records-clause (clauseOf n table G (pair u v)) ∙ ap (λ (x : List ℕ). map (clauseRecord 1) (ascending n (premises (length G) table (path G u v))) ++ (x ∷ [])) (record-equals (pair u v)))) (subst (λ (ps : List Pair). RecordsPut (map (clauseRecord 1) ps ++ (clauseRecord 2 (pair u v) ∷ [])) at out (r + 1) (putRecord r (clauseRecord 2 (pair u v)) out₁)) e q);
       })
@@ -135,17 +135,21 @@ flatMap-append {B = B} f (x ∷ xs) ys = ap (λ (l : List B). f x ++ l) (flatMap
 
 module _ (arrays : Drawing) (n : ℕ) where
   -- the clauses of these pairs are written
-  abbrev Put : (Pair → Type 0) → List Pair → ℕ → ℕ → List ℕ → ℕ → List Bool → List ℕ → Type 0
-  Put C ps most at out r found′ out′ = ClausesPut arrays n C ps most at out r found′ out′
+  abbrev Put : (Pair → Type 0) → List Pair → ℕ → ℕ → List Bool → List ℕ → ℕ → List Bool → List ℕ → Type 0
+  Put C ps most at found out r found′ out′ = ClausesPut arrays n C ps most at found out r found′ out′
+
+  -- the square is as it was lent
+  pub put-blank : {C : Pair → Type 0} {ps : List Pair} {most at r : ℕ} {found found′ : List Bool} {out out′ : List ℕ} → Put C ps most at found out r found′ out′ → 511 * n ≤ length found → Blank n found′
+  put-blank y h = record { rows = omega (arith, y .sized); clear = y .clear }
 
   -- none yet
-  pub clauses-none : (C : Pair → Type 0) (most at : ℕ) (out : List ℕ) (found : List Bool) → length found ≡ 261121 → Clear found → Put C [] most at out at found out
+  pub clauses-none : (C : Pair → Type 0) (most at : ℕ) (out : List ℕ) (found : List Bool) → Clear found → Put C [] most at found out at found out
   unfolding flatMap
-  clauses-none C most at out found s c = record { few = omega arith; same = refl; sized = s; clear = c; written = λ ts ls table G x. records-none at out }
+  clauses-none C most at out found c = record { few = omega arith; same = refl; sized = refl; clear = c; written = λ ts ls table G x. records-none at out }
 
   -- the same pairs, with room for more
-  pub clauses-as : (C : Pair → Type 0) (ps qs : List Pair) (most most′ at : ℕ) (out : List ℕ) (r : ℕ) (found′ : List Bool) (out′ : List ℕ) → qs ≡ ps → most ≤ most′ → Put C ps most at out r found′ out′ → Put C qs most′ at out r found′ out′
-  clauses-as C ps qs most most′ at out r found′ out′ e h x =
+  pub clauses-as : (C : Pair → Type 0) (ps qs : List Pair) (most most′ at : ℕ) (found : List Bool) (out : List ℕ) (r : ℕ) (found′ : List Bool) (out′ : List ℕ) → qs ≡ ps → most ≤ most′ → Put C ps most at found out r found′ out′ → Put C qs most′ at found out r found′ out′
+  clauses-as C ps qs most most′ at found out r found′ out′ e h x =
       record {
         few = omega (arith, x .few);
         same = x .same;
@@ -155,30 +159,30 @@ module _ (arrays : Drawing) (n : ℕ) where
       }
 
   -- some and then others, whose conclusions are among those that are concluded
-  pub clauses-append : (C D : Pair → Type 0) (ps qs : List Pair) (most more at : ℕ) (out : List ℕ) (r : ℕ) (found : List Bool) (out₁ : List ℕ) (r′ : ℕ) (found′ : List Bool) (out₂ : List ℕ) → ((p : Pair) → D p → C p) → Put C ps most at out r found out₁ → Put D qs more r out₁ r′ found′ out₂ → Put C (ps ++ qs) (most + more) at out r′ found′ out₂
-  clauses-append C D ps qs most more at out r found out₁ r′ found′ out₂ f x y =
+  pub clauses-append : (C D : Pair → Type 0) (ps qs : List Pair) (most more at : ℕ) (found₀ : List Bool) (out : List ℕ) (r : ℕ) (found : List Bool) (out₁ : List ℕ) (r′ : ℕ) (found′ : List Bool) (out₂ : List ℕ) → ((p : Pair) → D p → C p) → Put C ps most at found₀ out r found out₁ → Put D qs more r found out₁ r′ found′ out₂ → Put C (ps ++ qs) (most + more) at found₀ out r′ found′ out₂
+  clauses-append C D ps qs most more at found₀ out r found out₁ r′ found′ out₂ f x y =
       record {
         few = omega (arith, x .few, y .few);
         same = y .same ∙ x .same;
-        sized = y .sized;
+        sized = y .sized ∙ x .sized;
         clear = y .clear;
         written = λ ts ls table G z. subst (λ (rs : List (List ℕ)). RecordsPut rs at out r′ out₂) (sym (flatMap-append (clauseOut n table G) ps qs)) (records-append (flatMap (clauseOut n table G) ps) (flatMap (clauseOut n table G) qs) at out r out₁ r′ out₂ (x .written ts ls table G z) (y .written ts ls table G (record { drawn = z .drawn; terms = z .terms; connected = λ p w m. z .connected p w (f p m) })));
       }
 
   -- ---- one row
 
-  module _ (pairs : List Bool) (u at : ℕ) (out : List ℕ) where
+  module _ (pairs : List Bool) (u at : ℕ) (found₀ : List Bool) (out : List ℕ) where
     -- the clauses of the row up to column v
     pub record RowClauses (v r : ℕ) (found : List Bool) (out′ : List ℕ) : Type 0 where
       pub begun : u < v
       pub within : v ≤ n
-      pub put : Put (PairMarked pairs) (keep (marked pairs) (rowPairs v u)) v at out r found out′
+      pub put : Put (PairMarked pairs) (keep (marked pairs) (rowPairs v u)) v at found₀ out r found out′
 
     -- no column yet
-    pub row-clauses-none : u < n → (found : List Bool) → length found ≡ 261121 → Clear found → RowClauses (u + 1) at found out
+    pub row-clauses-none : u < n → Clear found₀ → RowClauses (u + 1) at found₀ out
     unfolding keep
-    row-clauses-none h found s c =
-        record { begun = omega arith; within = omega arith; put = clauses-as (PairMarked pairs) [] (keep (marked pairs) (rowPairs (u + 1) u)) 0 (u + 1) at out at found out (ap (keep (marked pairs)) (row-empty u)) (omega arith) (clauses-none (PairMarked pairs) 0 at out found s c) }
+    row-clauses-none h c =
+        record { begun = omega arith; within = omega arith; put = clauses-as (PairMarked pairs) [] (keep (marked pairs) (rowPairs (u + 1) u)) 0 (u + 1) at found₀ out at found₀ out (ap (keep (marked pairs)) (row-empty u)) (omega arith) (clauses-none (PairMarked pairs) 0 at out found₀ c) }
 
     module _ (v r : ℕ) (found : List Bool) (out₁ : List ℕ) (h : v < n) (x : RowClauses v r found out₁) where
       -- the marked pairs with one column more
@@ -188,31 +192,31 @@ module _ (arrays : Drawing) (n : ℕ) where
       -- a column without a mark
       pub row-clauses-skip : marked pairs (pair u v) ≡ false → RowClauses (v + 1) r found out₁
       row-clauses-skip e =
-          record { begun = omega (arith, x .begun); within = omega arith; put = clauses-as (PairMarked pairs) (keep (marked pairs) (rowPairs v u)) (keep (marked pairs) (rowPairs (v + 1) u)) v (v + 1) at out r found out₁ (kept ∙ ap (λ (l : List Pair). keep (marked pairs) (rowPairs v u) ++ l) (keep-not (marked pairs) (pair u v) e) ∙ append-nil (keep (marked pairs) (rowPairs v u))) (omega arith) (x .put) }
+          record { begun = omega (arith, x .begun); within = omega arith; put = clauses-as (PairMarked pairs) (keep (marked pairs) (rowPairs v u)) (keep (marked pairs) (rowPairs (v + 1) u)) v (v + 1) at found₀ out r found out₁ (kept ∙ ap (λ (l : List Pair). keep (marked pairs) (rowPairs v u) ++ l) (keep-not (marked pairs) (pair u v) e) ∙ append-nil (keep (marked pairs) (rowPairs v u))) (omega arith) (x .put) }
 
       -- a column with one: its clause is written
-      pub row-clauses-take : (r′ : ℕ) (found′ : List Bool) (out₂ : List ℕ) → marked pairs (pair u v) ≡ true → Put (λ p. p ≡ pair u v) (pair u v ∷ []) 1 r out₁ r′ found′ out₂ → RowClauses (v + 1) r′ found′ out₂
+      pub row-clauses-take : (r′ : ℕ) (found′ : List Bool) (out₂ : List ℕ) → marked pairs (pair u v) ≡ true → Put (λ p. p ≡ pair u v) (pair u v ∷ []) 1 r found out₁ r′ found′ out₂ → RowClauses (v + 1) r′ found′ out₂
       row-clauses-take r′ found′ out₂ e y =
-          record { begun = omega (arith, x .begun); within = omega arith; put = clauses-as (PairMarked pairs) (keep (marked pairs) (rowPairs v u) ++ (pair u v ∷ [])) (keep (marked pairs) (rowPairs (v + 1) u)) (v + 1) (v + 1) at out r′ found′ out₂ (kept ∙ ap (λ (l : List Pair). keep (marked pairs) (rowPairs v u) ++ l) (keep-one (marked pairs) (pair u v) e)) (omega arith) (clauses-append (PairMarked pairs) (λ p. p ≡ pair u v) (keep (marked pairs) (rowPairs v u)) (pair u v ∷ []) v 1 at out r found out₁ r′ found′ out₂ (λ p q. subst (PairMarked pairs) (sym q) (passes (marked pairs (pair u v)) e)) (x .put) y) }
+          record { begun = omega (arith, x .begun); within = omega arith; put = clauses-as (PairMarked pairs) (keep (marked pairs) (rowPairs v u) ++ (pair u v ∷ [])) (keep (marked pairs) (rowPairs (v + 1) u)) (v + 1) (v + 1) at found₀ out r′ found′ out₂ (kept ∙ ap (λ (l : List Pair). keep (marked pairs) (rowPairs v u) ++ l) (keep-one (marked pairs) (pair u v) e)) (omega arith) (clauses-append (PairMarked pairs) (λ p. p ≡ pair u v) (keep (marked pairs) (rowPairs v u)) (pair u v ∷ []) v 1 at found₀ out r found out₁ r′ found′ out₂ (λ p q. subst (PairMarked pairs) (sym q) (passes (marked pairs (pair u v)) e)) (x .put) y) }
 
     -- the whole row
-    pub row-clauses-all : (v r : ℕ) (found : List Bool) (out₁ : List ℕ) → n ≤ 511 → n ≤ v → RowClauses v r found out₁ → Put (PairMarked pairs) (keep (marked pairs) (rowPairs n u)) 511 at out r found out₁
+    pub row-clauses-all : (v r : ℕ) (found : List Bool) (out₁ : List ℕ) → n ≤ 511 → n ≤ v → RowClauses v r found out₁ → Put (PairMarked pairs) (keep (marked pairs) (rowPairs n u)) 511 at found₀ out r found out₁
     row-clauses-all v r found out₁ small h x =
         let e : n ≡ v = omega (arith, x .within) in
-        clauses-as (PairMarked pairs) (keep (marked pairs) (rowPairs v u)) (keep (marked pairs) (rowPairs n u)) v 511 at out r found out₁ (ap (λ (k : ℕ). keep (marked pairs) (rowPairs k u)) e) (omega (arith, x .within)) (x .put)
+        clauses-as (PairMarked pairs) (keep (marked pairs) (rowPairs v u)) (keep (marked pairs) (rowPairs n u)) v 511 at found₀ out r found out₁ (ap (λ (k : ℕ). keep (marked pairs) (rowPairs k u)) e) (omega (arith, x .within)) (x .put)
 
   -- ---- all rows
 
-  module _ (pairs : List Bool) (at : ℕ) (out : List ℕ) where
+  module _ (pairs : List Bool) (at : ℕ) (found₀ : List Bool) (out : List ℕ) where
     -- the clauses of the rows before u
     pub record RowsClauses (u r : ℕ) (found : List Bool) (out′ : List ℕ) : Type 0 where
       pub within : u ≤ n
-      pub put : Put (PairMarked pairs) (keep (marked pairs) (flatMap (rowPairs n) (below u))) (511 * u) at out r found out′
+      pub put : Put (PairMarked pairs) (keep (marked pairs) (flatMap (rowPairs n) (below u))) (511 * u) at found₀ out r found out′
 
     -- no row yet
-    pub rows-clauses-none : (found : List Bool) → length found ≡ 261121 → Clear found → RowsClauses 0 at found out
+    pub rows-clauses-none : Clear found₀ → RowsClauses 0 at found₀ out
     unfolding keep flatMap below
-    rows-clauses-none found s c = record { within = omega arith; put = clauses-none (PairMarked pairs) 0 at out found s c }
+    rows-clauses-none c = record { within = omega arith; put = clauses-none (PairMarked pairs) 0 at out found₀ c }
 
     module _ (u r : ℕ) (found : List Bool) (out₁ : List ℕ) (small : n ≤ 511) (h : u < n) (x : RowsClauses u r found out₁) where
       -- the marked pairs with one row more
@@ -220,33 +224,33 @@ module _ (arrays : Drawing) (n : ℕ) where
       rows-kept = ap (keep (marked pairs)) (rows-more n u) ∙ keep-append (marked pairs) (flatMap (rowPairs n) (below u)) (rowPairs n u)
 
       -- a row with marks
-      pub rows-clauses-take : (r′ : ℕ) (found′ : List Bool) (out₂ : List ℕ) → Put (PairMarked pairs) (keep (marked pairs) (rowPairs n u)) 511 r out₁ r′ found′ out₂ → RowsClauses (u + 1) r′ found′ out₂
+      pub rows-clauses-take : (r′ : ℕ) (found′ : List Bool) (out₂ : List ℕ) → Put (PairMarked pairs) (keep (marked pairs) (rowPairs n u)) 511 r found out₁ r′ found′ out₂ → RowsClauses (u + 1) r′ found′ out₂
       rows-clauses-take r′ found′ out₂ y =
-          record { within = omega arith; put = clauses-as (PairMarked pairs) (keep (marked pairs) (flatMap (rowPairs n) (below u)) ++ keep (marked pairs) (rowPairs n u)) (keep (marked pairs) (flatMap (rowPairs n) (below (u + 1)))) (511 * u + 511) (511 * (u + 1)) at out r′ found′ out₂ rows-kept (omega arith) (clauses-append (PairMarked pairs) (PairMarked pairs) (keep (marked pairs) (flatMap (rowPairs n) (below u))) (keep (marked pairs) (rowPairs n u)) (511 * u) 511 at out r found out₁ r′ found′ out₂ (λ p m. m) (x .put) y) }
+          record { within = omega arith; put = clauses-as (PairMarked pairs) (keep (marked pairs) (flatMap (rowPairs n) (below u)) ++ keep (marked pairs) (rowPairs n u)) (keep (marked pairs) (flatMap (rowPairs n) (below (u + 1)))) (511 * u + 511) (511 * (u + 1)) at found₀ out r′ found′ out₂ rows-kept (omega arith) (clauses-append (PairMarked pairs) (PairMarked pairs) (keep (marked pairs) (flatMap (rowPairs n) (below u))) (keep (marked pairs) (rowPairs n u)) (511 * u) 511 at found₀ out r found out₁ r′ found′ out₂ (λ p m. m) (x .put) y) }
 
       -- a row without marks is passed over
       pub rows-clauses-skip : (rows : List Bool) → Covered pairs rows → getD rows u false ≡ false → RowsClauses (u + 1) r found out₁
       rows-clauses-skip rows cover e =
           let empty = row-unmarked n u small pairs rows cover e in
-          record { within = omega arith; put = clauses-as (PairMarked pairs) (keep (marked pairs) (flatMap (rowPairs n) (below u))) (keep (marked pairs) (flatMap (rowPairs n) (below (u + 1)))) (511 * u) (511 * (u + 1)) at out r found out₁ (rows-kept ∙ ap (λ (l : List Pair). keep (marked pairs) (flatMap (rowPairs n) (below u)) ++ l) empty ∙ append-nil (keep (marked pairs) (flatMap (rowPairs n) (below u)))) (omega arith) (x .put) }
+          record { within = omega arith; put = clauses-as (PairMarked pairs) (keep (marked pairs) (flatMap (rowPairs n) (below u))) (keep (marked pairs) (flatMap (rowPairs n) (below (u + 1)))) (511 * u) (511 * (u + 1)) at found₀ out r found out₁ (rows-kept ∙ ap (λ (l : List Pair). keep (marked pairs) (flatMap (rowPairs n) (below u)) ++ l) empty ∙ append-nil (keep (marked pairs) (flatMap (rowPairs n) (below u)))) (omega arith) (x .put) }
 
     -- all rows
-    pub rows-clauses-all : (u r : ℕ) (found : List Bool) (out₁ : List ℕ) → n ≤ 511 → n ≤ u → RowsClauses u r found out₁ → Put (PairMarked pairs) (keep (marked pairs) (pairsBelow n)) 261121 at out r found out₁
+    pub rows-clauses-all : (u r : ℕ) (found : List Bool) (out₁ : List ℕ) → n ≤ 511 → n ≤ u → RowsClauses u r found out₁ → Put (PairMarked pairs) (keep (marked pairs) (pairsBelow n)) 261121 at found₀ out r found out₁
     unfolding pairsBelow
     rows-clauses-all u r found out₁ small h x =
         let e : n ≡ u = omega (arith, x .within) in
-        clauses-as (PairMarked pairs) (keep (marked pairs) (flatMap (rowPairs n) (below u))) (keep (marked pairs) (flatMap (rowPairs n) (below n))) (511 * u) 261121 at out r found out₁ (ap (λ (k : ℕ). keep (marked pairs) (flatMap (rowPairs n) (below k))) e) (omega (arith, x .within)) (x .put)
+        clauses-as (PairMarked pairs) (keep (marked pairs) (flatMap (rowPairs n) (below u))) (keep (marked pairs) (flatMap (rowPairs n) (below n))) (511 * u) 261121 at found₀ out r found out₁ (ap (λ (k : ℕ). keep (marked pairs) (flatMap (rowPairs n) (below k))) e) (omega (arith, x .within)) (x .put)
 
     -- the same under other names
     pub rows-clauses-named : (u r r′ : ℕ) (found found′ : List Bool) (out₁ out₂ : List ℕ) → found′ ≡ found → out₂ ≡ out₁ → r′ ≡ r → RowsClauses u r found out₁ → RowsClauses u r′ found′ out₂
     rows-clauses-named u r r′ found found′ out₁ out₂ f o e x =
         subst (RowsClauses u r′ found′) (sym o) (subst (λ (y : List Bool). RowsClauses u r′ y out₁) (sym f) (subst (λ (y : ℕ). RowsClauses u y found out₁) (sym e) x))
 
-  module _ (pairs : List Bool) (u at : ℕ) (out : List ℕ) where
+  module _ (pairs : List Bool) (u at : ℕ) (found₀ : List Bool) (out : List ℕ) where
     -- a row under other names
-    pub row-clauses-named : (v r r′ : ℕ) (found found′ : List Bool) (out₁ out₂ : List ℕ) → found′ ≡ found → out₂ ≡ out₁ → r′ ≡ r → RowClauses pairs u at out v r found out₁ → RowClauses pairs u at out v r′ found′ out₂
+    pub row-clauses-named : (v r r′ : ℕ) (found found′ : List Bool) (out₁ out₂ : List ℕ) → found′ ≡ found → out₂ ≡ out₁ → r′ ≡ r → RowClauses pairs u at found₀ out v r found out₁ → RowClauses pairs u at found₀ out v r′ found′ out₂
     row-clauses-named v r r′ found found′ out₁ out₂ f o e x =
-        subst (RowClauses pairs u at out v r′ found′) (sym o) (subst (λ (y : List Bool). RowClauses pairs u at out v r′ y out₁) (sym f) (subst (λ (y : ℕ). RowClauses pairs u at out v y found out₁) (sym e) x))
+        subst (RowClauses pairs u at found₀ out v r′ found′) (sym o) (subst (λ (y : List Bool). RowClauses pairs u at found₀ out v r′ y out₁) (sym f) (subst (λ (y : ℕ). RowClauses pairs u at found₀ out v y found out₁) (sym e) x))
 
   -- what is read of all marked pairs is read of one of them
   pub readable-one : (pairs : List Bool) (p : Pair) → PairMarked pairs p → ReadableSome arrays n (PairMarked pairs) → ReadableSome arrays n (λ q. q ≡ p)
@@ -276,7 +280,6 @@ module _ (arrays : Drawing) (stops edges : List ℕ) (lo hi hops : ℕ) where
   pub concluded : (pairs rows p₁ r₁ i₁ u₁ p₃ r₃ i₃ u₃ p₄ r₄ i₄ u₄ : List Bool) → Clear pairs → Wanted (arrays .inb) stops edges lo hi false true pairs rows (replicate 510 false) (replicate 510 false) p₁ r₁ i₁ u₁ → OuterWanted (arrays .inb) stops edges lo hi hops false p₁ r₁ i₁ u₁ p₃ r₃ i₃ u₃ → Settled arrays false p₃ r₃ i₃ u₃ p₄ r₄ i₄ u₄ → Concluding arrays stops edges lo hi hops p₄ r₄
   concluded pairs rows p₁ r₁ i₁ u₁ p₃ r₃ i₃ u₃ p₄ r₄ i₄ u₄ c w o s =
       record {
-        square = s .in-order .square;
         cover = s .cover (o .after .cover (o .before .cover (w .cover (none-covered pairs c rows))));
         marks = λ ts ls table G d before middle after ob om oa tb tm ta p v. let read = owed-wanted arrays ts ls table G d false in let a = read true middle om stops edges lo hi pairs rows (replicate 510 false) (replicate 510 false) p₁ r₁ i₁ u₁ tm w p v in let b = read false before ob stops edges 0 lo p₁ r₁ i₁ u₁ (o .pairs₁) (o .rows₁) (o .inside₁) (o .under₁) tb (o .before) p v in let e = read false after oa stops edges hi hops (o .pairs₁) (o .rows₁) (o .inside₁) (o .under₁) p₃ r₃ i₃ u₃ ta (o .after) p v in let m = s .marks ts ls table G d p v in (λ x. ⊎-elim (λ y. ⊎-elim (λ z. ⊎-elim (λ q. absurd (none-owed arrays ts ls table G d false pairs c p v q)) inl (a .0 z)) (λ z. inr (inl z)) (b .0 y)) (λ y. inr (inr y)) (e .0 (m .0 x)), λ x. m .1 (e .1 (⊎-elim (λ y. inl (b .1 (inl (a .1 (inr y))))) (λ y. ⊎-elim (λ z. inl (b .1 (inr z))) (λ z. inr z) y) x)));
       }
@@ -292,12 +295,12 @@ module _ (arrays : Drawing) (stops edges : List ℕ) (lo hi hops : ℕ) where
         (λ k. ⊎-elim (λ z. ⊎-elim (λ q. absurd (none-owed arrays ts ls table G d true found c p v q)) (λ q. inl (reached-premise table p q)) (x .0 z)) (λ z. inr (reached-premise table p z)) (y .0 (m .0 k)), λ k. m .1 (y .1 (⊎-elim (λ z. inl (x .1 (inr (premise-reached table p z)))) (λ z. inr (premise-reached table p z)) k)))
 
     -- they are written, and then the last conclusion
-    pub last-put : (f₄ : List Bool) (at r : ℕ) (out out₁ out₂ : List ℕ) → AllOut n at f₃ out r f₄ out₁ → out₂ ≡ putRecord r (conclusionRecord (notAt stops lo hi)) out₁ → LastPut arrays n stops edges lo hi hops at out (r + 1) f₄ out₂
+    pub last-put : (f₄ : List Bool) (at r : ℕ) (out out₁ out₂ : List ℕ) → AllOut n at f₃ out r f₄ out₁ → out₂ ≡ putRecord r (conclusionRecord (notAt stops lo hi)) out₁ → LastPut arrays n stops edges lo hi hops at found out (r + 1) f₄ out₂
     last-put f₄ at r out out₁ out₂ a e₂ =
         record {
           written = λ ts ls table G d before after ob oa tb ta qs f. let marks : (p : Pair) → PairWithin 511 p → PairMarked f₃ p ↔ List·Memᴰ p qs = λ p v. let x = outer-marked ts ls table G d before after ob oa tb ta p v in (λ k. f p .1 (x .0 k), λ k. x .1 (f p .0 k)) in (subst (λ (rs : List (List ℕ)). RecordsPut rs at out (r + 1) out₂) (sym (records-clause (record { premises = ascending n qs; conclusion = notAt stops lo hi }))) (subst (λ (o : List ℕ). RecordsPut (map (clauseRecord 1) (ascending n qs) ++ (conclusionRecord (notAt stops lo hi) ∷ [])) at out (r + 1) o) (sym e₂) (records-more (map (clauseRecord 1) (ascending n qs)) (conclusionRecord (notAt stops lo hi)) at out r out₁ (subst (λ (ps : List Pair). RecordsPut (map (clauseRecord 1) ps) at out r out₁) (marked-ascending n f₃ qs small marks) (premises-put (keep (marked f₃) (pairsBelow n)) at out r out₁ (a .premises))))), λ low p k m. let y = a .left-over p k .0 m in omega (arith, y .1, low p (marks p k .0 (y .0))));
           same = ap length e₂ ∙ put-length r (conclusionRecord (notAt stops lo hi)) out₁ (conclusion-long (notAt stops lo hi)) ∙ premises-length (keep (marked f₃) (pairsBelow n)) at out r out₁ (a .premises);
-          sized = a .sized;
+          sized = a .sized ∙ s .same ∙ o .after .same ∙ o .before .same;
         }
       where
         conclusion-long : (k : Conclusion) → length (conclusionRecord k) ≡ 8

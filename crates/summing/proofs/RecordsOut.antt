@@ -184,16 +184,16 @@ pub record RowTo (u n at : ℕ) (found₀ : List Bool) (out₀ : List ℕ) (v r 
 
 module _ (u n at : ℕ) (found₀ : List Bool) (out₀ : List ℕ) (small : n ≤ 511) where
   -- nothing yet
-  pub row-none : u < n → length found₀ ≡ 261121 → RowTo u n at found₀ out₀ (u + 1) at found₀ out₀
+  pub row-none : u < n → RowTo u n at found₀ out₀ (u + 1) at found₀ out₀
   unfolding putRecords keep
-  row-none h s =
+  row-none h =
       let none : keep (marked found₀) (rowPairs (u + 1) u) ≡ [] = ap (keep (marked found₀)) (row-empty u) in
       record {
         begun = omega arith;
         within = omega arith;
         few = omega arith;
         premises = subst (λ (ps : List Pair). PremisesOut ps at out₀ at out₀) (sym none) (record { count = omega arith; bytes = refl });
-        cleared = record { sized = s; left-over = λ p w. (λ m. (m, same-or-not (p .left) u (λ e. inr (omega (arith, e, w .0))) (λ d. inl d)), λ m. m .0) };
+        cleared = record { sized = refl; left-over = λ p w. (λ m. (m, same-or-not (p .left) u (λ e. inr (omega (arith, e, w .0))) (λ d. inl d)), λ m. m .0) };
       }
 
   module _ (v r : ℕ) (found : List Bool) (out : List ℕ) (h : v < n) (x : RowTo u n at found₀ out₀ v r found out) where
@@ -224,8 +224,8 @@ module _ (u n at : ℕ) (found₀ : List Bool) (out₀ : List ℕ) (small : n �
         unmarked p e′ e″ m = subst T (ap₂ (λ (a b : ℕ). marked found (pair a b)) e′ e″ ∙ e) m
 
     -- a column with a mark: its record is written, and the mark taken away
-    pub row-take : marked found (pair u v) ≡ true → RowTo u n at found₀ out₀ (v + 1) (r + 1) (set found (511 * u + v) false) (putRecord r (clauseRecord 1 (pair u v)) out)
-    row-take e =
+    pub row-take : 511 * n ≤ length found₀ → marked found (pair u v) ≡ true → RowTo u n at found₀ out₀ (v + 1) (r + 1) (set found (511 * u + v) false) (putRecord r (clauseRecord 1 (pair u v)) out)
+    row-take fits e =
         let some = sym row-same ∙ e in
         let q : keep (marked found₀) (rowPairs (v + 1) u) ≡ keep (marked found₀) (rowPairs v u) ++ (pair u v ∷ []) = row-kept ∙ ap (λ (l : List Pair). keep (marked found₀) (rowPairs v u) ++ l) (keep-one (marked found₀) (pair u v) some) in
         record {
@@ -265,19 +265,19 @@ pub record RowsTo (n at : ℕ) (found₀ : List Bool) (out₀ : List ℕ) (u r :
   pub within : u ≤ n
   pub few : r ≤ at + 511 * u
   pub premises : PremisesOut (keep (marked found₀) (flatMap (rowPairs n) (below u))) at out₀ r out
-  pub sized : length found ≡ 261121
+  pub sized : length found ≡ length found₀
   pub left-over : (p : Pair) → PairWithin 511 p → PairMarked found p ↔ (PairMarked found₀ p × ((u ≤ p .left) ⊎ (n ≤ p .right)))
 
 module _ (n at : ℕ) (found₀ : List Bool) (out₀ : List ℕ) (small : n ≤ 511) where
   -- no row yet
-  pub rows-none : length found₀ ≡ 261121 → RowsTo n at found₀ out₀ 0 at found₀ out₀
+  pub rows-none : RowsTo n at found₀ out₀ 0 at found₀ out₀
   unfolding putRecords keep flatMap below
-  rows-none s =
+  rows-none =
       record {
         within = omega arith;
         few = omega arith;
         premises = record { count = omega arith; bytes = refl };
-        sized = s;
+        sized = refl;
         left-over = λ p w. (λ m. (m, inl (omega arith)), λ m. m .0);
       }
 
@@ -305,7 +305,7 @@ module _ (n at : ℕ) (found₀ : List Bool) (out₀ : List ℕ) (small : n ≤ 
           within = omega arith;
           few = omega (arith, x .few, y .few);
           premises = subst (λ (ps : List Pair). PremisesOut ps at out₀ r′ out′) (sym rows-kept) (premises-append (keep (marked found₀) (flatMap (rowPairs n) (below u))) (keep (marked found) (rowPairs n u)) at out₀ r out r′ out′ (x .premises) (y .premises));
-          sized = y .cleared .sized;
+          sized = y .cleared .sized ∙ x .sized;
           left-over = λ p w. let a = x .left-over p w in let b = y .cleared .left-over p w in (λ m. let k = b .0 m in let j = a .0 (k .0) in (j .0, ⊎-elim (λ d. ⊎-elim (λ l. inl (omega (arith, l, d))) inr (j .1)) inr (k .1)), λ m. b .1 (a .1 (m .0, ⊎-elim (λ l. inl (omega (arith, l))) inr (m .1)), ⊎-elim (λ l. inl (λ e. omega (arith, l, e))) inr (m .1)));
         }
 

@@ -7,7 +7,7 @@ use Prim.Native.Nat.{ℕ, _*_, _/_, _≤_, _<_}
 use native.Mathlib.Omega.{arith}
 use borrow.Author.Tests.{lt-ltb, le-ltb, lt-leb, le-leb}
 use lib.Dec.{T, not-T}
-use lib.ListN.{length, getD, drop, replicate}
+use lib.ListN.{length, getD, drop, replicate, length-replicate}
 use Rattle.tables.specs.Words.{Pair, keep, pairsBelow}
 use Rattle.tables.specs.Terms.{Term}
 use Rattle.tables.specs.LiteralTable.{Literal}
@@ -29,10 +29,10 @@ use Rattle.clauses.specs.Premises.{premises, pathClauses}
 use Rattle.clauses.specs.Reading.{Stretches, stretches, endOf, notMiddle, clausesIn, outerPremises, readA, readBetween}
 use Rattle.clauses.specs.Records.{ascending, concluding, isLast, firstAlone, inOrder, recordsOf, clauseRecords}
 use Rattle.marking.specs.declared.drawing.Drawing.{Drawing}
-use Rattle.marking.specs.Marks.{Reached, across, along, PairWithin, placeOf, PairMarked, Trailed, done, step}
+use Rattle.marking.specs.Marks.{Reached, across, along, PairWithin, placeOf, PairMarked, RowsOf, Trailed, done, step}
 use Rattle.marking.specs.Drawn.{DrawnSome}
 use Rattle.summing.specs.Writing.{marked}
-use Rattle.summing.specs.Written.{clauseOf, clauseOut, RecordsPut, Readable, FirstB, LastB, Concluding, notAt, LastPut, Clear, ClausesPut, Asking, AskingSome, sideOf, AllPut, Summarised}
+use Rattle.summing.specs.Written.{clauseOf, clauseOut, RecordsPut, Readable, FirstB, LastB, Concluding, notAt, LastPut, Clear, Blank, ClausesPut, Asking, AskingSome, sideOf, AllPut, Summarised}
 use Rattle.clauses.proofs.Pieces.{equals-kind, middle-kind, endOf-none, endOf-hop, notMiddle-none, notMiddle-hop, stretches-none, first-none, first-some, records-standing, read-B, read-A}
 use Rattle.clauses.proofs.Meaning.{path-enough}
 use Rattle.clauses.proofs.Stretches.{Divided, stretches-divided, before-is, middle-is, after-is}
@@ -40,7 +40,7 @@ use Rattle.clauses.proofs.Interpolation.{lastClause, ReadingA, of-middle, of-ou
 use Rattle.clauses.proofs.Order.{concludes-eq, eq-concludes, ascending-agree}
 use Rattle.clauses.proofs.OneClause.{OfPath, FromPaths, from-paths-premises, read-from-paths, listed-of-path, walk-enough, premise-within, premisesIn-mean, outerPremises-mean}
 use Rattle.summing.proofs.ClausesOut.{none-marked, flatMap-append, records-append}
-use Rattle.marking.proofs.Owing.{PathRead, path-read, joins}
+use Rattle.marking.proofs.Owing.{PathRead, path-read, path-rows, joins}
 use Rattle.summing.proofs.RecordsOut.{keep-none, puts-fit}
 use Rattle.clauses.proofs.Records.{clauseBytes, clauseRecords-eight}
 use Rattle.marking.proofs.Trails.{trailed-forward}
@@ -311,8 +311,8 @@ module _ (arrays : Drawing) (n : ℕ) (colours : List ℕ) (s t : ℕ) (ts : Lis
         ap (λ (rs : List (List ℕ)). flatMap (clauseOut n table G) (keep (marked pairs) (pairsBelow n)) ++ rs) (append-nil (recordsOf (inOrder n (lastClause ts ls table G cut))) ∙ ap recordsOf same)
 
     -- the records of the last clause are put behind the others
-    pub summarised-A : (pairs rows : List Bool) → n ≤ 511 → Concluding arrays stops edges lo hi hops pairs rows → (out out₁ out₂ : List ℕ) (r r′ : ℕ) → RecordsPut (flatMap (clauseOut n table G) (keep (marked pairs) (pairsBelow n))) 0 out r out₁ → (found : List Bool) → LastPut arrays n stops edges lo hi hops r out₁ r′ found out₂ → RecordsPut (clauseRecords n (clausesOf A)) 0 out r′ out₂ × Clear found
-    summarised-A pairs rows small c out out₁ out₂ r r′ a found b =
+    pub summarised-A : (pairs rows : List Bool) → n ≤ 511 → Concluding arrays stops edges lo hi hops pairs rows → (out out₁ out₂ : List ℕ) (r r′ : ℕ) → RecordsPut (flatMap (clauseOut n table G) (keep (marked pairs) (pairsBelow n))) 0 out r out₁ → (found found′ : List Bool) → LastPut arrays n stops edges lo hi hops r found out₁ r′ found′ out₂ → RecordsPut (clauseRecords n (clausesOf A)) 0 out r′ out₂ × Clear found′
+    summarised-A pairs rows small c out out₁ out₂ r r′ a found found′ b =
         let q = cut-trailed in
         let last = b .written ts ls table G (x .drawn) (cut .before) (cut .after) (λ h k. walk-hop (divided .before-walk) k) (λ h k. walk-hop (divided .after-walk) k) (q .0) (q .2) (outerPremises ts ls table G cut) (λ p. outerPremises-mean ts ls table G s t cut divided p) in (
           subst (λ (rs : List (List ℕ)). RecordsPut rs 0 out r′ out₂) (sym (records-A pairs rows small c))
@@ -322,9 +322,9 @@ module _ (arrays : Drawing) (n : ℕ) (colours : List ℕ) (s t : ℕ) (ts : Lis
 
 -- ---- what the writer asks
 
--- nothing is marked in a new square
-pub new-clear : Clear (replicate 261121 false)
-new-clear p w m = none-marked 261121 (placeOf p) m
+-- a new square, with a row for each vertex
+pub new-blank : (n size : ℕ) → 511 * n ≤ size → Blank n (replicate size false)
+new-blank n size h = record { rows = omega (arith, length-replicate size false); clear = λ p w m. none-marked size (placeOf p) m }
 
 module _ (arrays : Drawing) (n : ℕ) (colours : List ℕ) (s t : ℕ) (small : n ≤ 511) where
   -- what is asked, of a graph
@@ -357,19 +357,23 @@ module _ (arrays : Drawing) (n : ℕ) (colours : List ℕ) (s t : ℕ) (small : 
       let x = a .4 in
       (omega (arith, x .left-within), omega (arith, x .right-within), (a .3, joins arrays (a .0) (a .1) (a .2) (a .3) (x .drawn) (x .join)))
 
-  -- some graph is drawn
-  pub asked-drawn : SomeAsking → DrawnSome arrays
-  asked-drawn a = (a .0, a .1, a .2, a .3, a .4 .drawn)
+  -- some graph is drawn, and a square with n rows has one for each of its vertices
+  pub asked-drawn : (size : ℕ) → 511 * n ≤ size → SomeAsking → DrawnSome arrays size
+  asked-drawn size h a = (a .0, a .1, a .2, a .3, a .4 .drawn, omega (arith, a .4 .terms))
 
   module _ (r : Trail) (given : (G : Graph) → Joining (arrays .toward) (arrays .by) (arrays .rank) s t G → TrailOf G s t r) where
     -- the trail between the sides
     pub sides-read : (ts : List Term) (ls : List Literal) (table : List Term) (G : Graph) (x : AskingHere ts ls table G) → PathRead arrays ts ls table G (x .drawn) s t (r .hops) (r .stops) (r .edges)
     sides-read ts ls table G x =
-        path-read arrays ts ls table G (x .drawn) s t (omega (arith, x .left-within)) (x .join) r (given G (joins arrays ts ls table G (x .drawn) (x .join)))
+        path-read arrays ts ls table G (x .drawn) s t (omega (arith, x .left-within, x .terms)) (x .join) r (given G (joins arrays ts ls table G (x .drawn) (x .join)))
 
     -- its stops are terms of the table
     pub sides-in : (ts : List Term) (ls : List Literal) (table : List Term) (G : Graph) → AskingHere ts ls table G → (k : ℕ) → k ≤ r .hops → getD (r .stops) k 0 < length table
-    sides-in ts ls table G x = sides-read ts ls table G x .in-table (omega (arith, x .left-within, x .terms))
+    sides-in ts ls table G x = sides-read ts ls table G x .in-table
+
+    -- so a square with n rows has theirs
+    pub sides-rows : (size : ℕ) → 511 * n ≤ size → SomeAsking → RowsOf size (r .stops) (r .hops)
+    sides-rows size h a = path-rows arrays (a .0) (a .1) (a .2) (a .3) (a .4 .drawn) size (omega (arith, a .4 .terms)) (sides-read (a .0) (a .1) (a .2) (a .3) (a .4))
 
     -- the pairs that are marked are joined, in B
     pub readable-B : (pairs rows : List Bool) → Concluding arrays (r .stops) (r .edges) 0 (r .hops) (r .hops) pairs rows → (ts : List Term) (ls : List Literal) (table : List Term) (G : Graph) → AskingHere ts ls table G → Readable arrays n (PairMarked pairs) ts ls table G
@@ -378,8 +382,8 @@ module _ (arrays : Drawing) (n : ℕ) (colours : List ℕ) (s t : ℕ) (small : 
         marked-readable arrays n colours s t ts ls table G x (r .stops) (r .edges) (r .hops) trail B pairs small (marks-B arrays n colours s t ts ls table G x (r .stops) (r .edges) (r .hops) trail pairs rows c)
 
     -- the records in B
-    pub put-B : (pairs rows : List Bool) → Concluding arrays (r .stops) (r .edges) 0 (r .hops) (r .hops) pairs rows → (out out′ : List ℕ) (k : ℕ) (found : List Bool) → ClausesPut arrays n (PairMarked pairs) (keep (marked pairs) (pairsBelow n)) 261121 0 out k found out′ → SummaryPut B out k out′
-    put-B pairs rows c out out′ k found y ts ls table G x =
+    pub put-B : (pairs rows : List Bool) → Concluding arrays (r .stops) (r .edges) 0 (r .hops) (r .hops) pairs rows → (out out′ : List ℕ) (k : ℕ) (found found′ : List Bool) → ClausesPut arrays n (PairMarked pairs) (keep (marked pairs) (pairsBelow n)) 261121 0 found out k found′ out′ → SummaryPut B out k out′
+    put-B pairs rows c out out′ k found found′ y ts ls table G x =
         subst (λ (rs : List (List ℕ)). RecordsPut rs 0 out k out′) (sym (records-B arrays n colours s t ts ls table G x (r .stops) (r .edges) (r .hops) (sides-read ts ls table G x .trailed) pairs rows small c)) (y .written ts ls table G (readable-B pairs rows c ts ls table G x))
 
     module _ (lo hi : ℕ) (first : FirstB colours (r .stops) (r .hops) lo) (last : LastB colours (r .stops) lo (r .hops) hi) where
@@ -389,16 +393,16 @@ module _ (arrays : Drawing) (n : ℕ) (colours : List ℕ) (s t : ℕ) (small : 
           let trail = sides-read ts ls table G x .trailed in
           marked-readable arrays n colours s t ts ls table G x (r .stops) (r .edges) (r .hops) trail A pairs small (marks-A arrays n colours s t ts ls table G x (r .stops) (r .edges) (r .hops) trail lo hi (sides-in ts ls table G x) first last pairs rows c)
 
-      module _ (pairs rows : List Bool) (c : Concluding arrays (r .stops) (r .edges) lo hi (r .hops) pairs rows) (out out₁ out₂ : List ℕ) (k k′ : ℕ) (found found′ : List Bool) (y : ClausesPut arrays n (PairMarked pairs) (keep (marked pairs) (pairsBelow n)) 261121 0 out k found out₁) (z : LastPut arrays n (r .stops) (r .edges) lo hi (r .hops) k out₁ k′ found′ out₂) where
+      module _ (pairs rows : List Bool) (c : Concluding arrays (r .stops) (r .edges) lo hi (r .hops) pairs rows) (out out₁ out₂ : List ℕ) (k k′ : ℕ) (found found₁ found₂ : List Bool) (y : ClausesPut arrays n (PairMarked pairs) (keep (marked pairs) (pairsBelow n)) 261121 0 found out k found₁ out₁) (z : LastPut arrays n (r .stops) (r .edges) lo hi (r .hops) k found₁ out₁ k′ found₂ out₂) where
         -- the records in A, with no premise left marked
-        put-clear : (ts : List Term) (ls : List Literal) (table : List Term) (G : Graph) → AskingHere ts ls table G → RecordsPut (clauseRecords n (readBetween ts ls table G A s t)) 0 out k′ out₂ × Clear found′
+        put-clear : (ts : List Term) (ls : List Literal) (table : List Term) (G : Graph) → AskingHere ts ls table G → RecordsPut (clauseRecords n (readBetween ts ls table G A s t)) 0 out k′ out₂ × Clear found₂
         put-clear ts ls table G x =
-            summarised-A arrays n colours s t ts ls table G x (r .stops) (r .edges) (r .hops) (sides-read ts ls table G x .trailed) lo hi (sides-in ts ls table G x) first last pairs rows small c out out₁ out₂ k k′ (y .written ts ls table G (readable-A pairs rows c ts ls table G x)) found′ z
+            summarised-A arrays n colours s t ts ls table G x (r .stops) (r .edges) (r .hops) (sides-read ts ls table G x .trailed) lo hi (sides-in ts ls table G x) first last pairs rows small c out out₁ out₂ k k′ (y .written ts ls table G (readable-A pairs rows c ts ls table G x)) found₁ found₂ z
 
         pub put-A : SummaryPut A out k′ out₂
         put-A ts ls table G x = put-clear ts ls table G x .0
 
-        pub clear-A : SomeAsking → Clear found′
+        pub clear-A : SomeAsking → Clear found₂
         clear-A a = put-clear (a .0) (a .1) (a .2) (a .3) (a .4) .1
 
   -- the side under another name

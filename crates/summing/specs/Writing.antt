@@ -35,7 +35,7 @@ pub record PremisesOut (ps : List Pair) (at : ℕ) (out : List ℕ) (r : ℕ) (o
 
 -- the marks of row u below n are taken away, and no other
 pub record RowCleared (n u : ℕ) (found found′ : List Bool) : Type 0 where
-  pub sized : length found′ ≡ 261121
+  pub sized : length found′ ≡ length found
   pub left-over : (p : Pair) → PairWithin 511 p → PairMarked found′ p ↔ (PairMarked found p × ((p .left ≡ u → ⊥) ⊎ (n ≤ p .right)))
 
 -- the marked pairs of a row become records
@@ -48,5 +48,5 @@ pub record RowOut (n u at : ℕ) (found : List Bool) (out : List ℕ) (r : ℕ) 
 pub record AllOut (n at : ℕ) (found : List Bool) (out : List ℕ) (r : ℕ) (found′ : List Bool) (out′ : List ℕ) : Type 0 where
   pub few : r ≤ at + 261121
   pub premises : PremisesOut (keep (marked found) (pairsBelow n)) at out r out′
-  pub sized : length found′ ≡ 261121
+  pub sized : length found′ ≡ length found
   pub left-over : (p : Pair) → PairWithin 511 p → PairMarked found′ p ↔ (PairMarked found p × (n ≤ p .right))

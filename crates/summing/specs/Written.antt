@@ -19,7 +19,7 @@ use Rattle.clauses.specs.Premises.{premises, Premise}
 use Rattle.clauses.specs.Records.{ascending, recordsOf, clauseRecords}
 use Rattle.clauses.specs.Reading.{readBetween}
 use Rattle.marking.specs.declared.drawing.Drawing.{Drawing}
-use Rattle.marking.specs.Marks.{Reached, PairWithin, PairMarked, Covered, Square, Trailed}
+use Rattle.marking.specs.Marks.{Reached, PairWithin, PairMarked, Covered, Trailed}
 use Rattle.marking.specs.Drawn.{Drawn}
 use Rattle.summing.specs.Writing.{putRecords}
 
@@ -42,6 +42,11 @@ pub record RecordsPut (rs : List (List ℕ)) (at : ℕ) (out : List ℕ) (r : �
 abbrev pub Clear : List Bool → Type 0
 Clear found = (p : Pair) → PairWithin 511 p → PairMarked found p → ⊥
 
+-- a square as it is lent: it has a row for each of n vertices, and no pair is marked
+pub record Blank (n : ℕ) (found : List Bool) : Type 0 where
+  pub rows : 511 * n ≤ length found
+  pub clear : Clear found
+
 -- the arrays hold a graph over n terms, and the pairs that are marked are joined in it
 pub record Readable (arrays : Drawing) (n : ℕ) (Concluded : Pair → Type 0) (ts : List Term) (ls : List Literal) (table : List Term) (G : Graph) : Type 0 where
   pub drawn : Drawn arrays ts ls table G
@@ -54,10 +59,10 @@ ReadableSome arrays n Concluded =
     (ts : List Term) × (ls : List Literal) × (table : List Term) × (G : Graph) × Readable arrays n Concluded ts ls table G
 
 -- the clauses of some pairs are written, at most 261122 records for each of `most` pairs, and no premise is left marked
-pub record ClausesPut (arrays : Drawing) (n : ℕ) (Concluded : Pair → Type 0) (ps : List Pair) (most at : ℕ) (out : List ℕ) (r : ℕ) (found′ : List Bool) (out′ : List ℕ) : Type 0 where
+pub record ClausesPut (arrays : Drawing) (n : ℕ) (Concluded : Pair → Type 0) (ps : List Pair) (most at : ℕ) (found : List Bool) (out : List ℕ) (r : ℕ) (found′ : List Bool) (out′ : List ℕ) : Type 0 where
   pub few : r ≤ at + 261122 * most
   pub same : length out′ ≡ length out
-  pub sized : length found′ ≡ 261121
+  pub sized : length found′ ≡ length found
   pub clear : Clear found′
   pub written : (ts : List Term) (ls : List Literal) (table : List Term) (G : Graph) → Readable arrays n Concluded ts ls table G → RecordsPut (flatMap (clauseOut n table G) ps) at out r out′
 
@@ -80,7 +85,6 @@ Over G π = (h : Hop) → List·Memᴰ h π → HopOf h G
 
 -- the pairs that the clauses of a disequality conclude are marked, by its outer stretches before and after the middle one
 pub record Concluding (arrays : Drawing) (stops edges : List ℕ) (lo hi hops : ℕ) (pairs′ rows′ : List Bool) : Type 0 where
-  pub square : Square pairs′ rows′
   pub cover : Covered pairs′ rows′
   pub marks : (ts : List Term) (ls : List Literal) (table : List Term) (G : Graph) → Drawn arrays ts ls table G → (before middle after : Path) → Over G before → Over G middle → Over G after → Trailed (arrays .inb) stops edges lo 0 before → Trailed (arrays .inb) stops edges hi lo middle → Trailed (arrays .inb) stops edges hops hi after → (p : Pair) → PairWithin 511 p → PairMarked pairs′ p ↔ (Reached table false p true middle ⊎ (Reached table false p false before ⊎ Reached table false p false after))
 
@@ -89,10 +93,10 @@ unfoldable pub notAt : List ℕ → ℕ → ℕ → Conclusion
 notAt stops lo hi = cond (ltb lo hi) (differs (between (getD stops lo 0) (getD stops hi 0))) falsum
 
 -- the last clause is written: the premises of the outer stretches, and "not [middle]"; where those are of terms below n, none is left marked
-pub record LastPut (arrays : Drawing) (n : ℕ) (stops edges : List ℕ) (lo hi hops at : ℕ) (out : List ℕ) (r : ℕ) (found′ : List Bool) (out′ : List ℕ) : Type 0 where
+pub record LastPut (arrays : Drawing) (n : ℕ) (stops edges : List ℕ) (lo hi hops at : ℕ) (found : List Bool) (out : List ℕ) (r : ℕ) (found′ : List Bool) (out′ : List ℕ) : Type 0 where
   pub written : (ts : List Term) (ls : List Literal) (table : List Term) (G : Graph) → Drawn arrays ts ls table G → (before after : Path) → Over G before → Over G after → Trailed (arrays .inb) stops edges lo 0 before → Trailed (arrays .inb) stops edges hops hi after → (qs : List Pair) → ((p : Pair) → List·Memᴰ p qs ↔ (Premise table p before ⊎ Premise table p after)) → RecordsPut (recordsOf (record { premises = ascending n qs; conclusion = notAt stops lo hi })) at out r out′ × (((p : Pair) → List·Memᴰ p qs → p .right < n) → Clear found′)
   pub same : length out′ ≡ length out
-  pub sized : length found′ ≡ 261121
+  pub sized : length found′ ≡ length found
 
 -- what is asked of the writer of a summary: the arrays hold a graph over n terms that joins s and t, and the colours of 2 and more are those with B
 pub record Asking (arrays : Drawing) (n : ℕ) (colours : List ℕ) (s t : ℕ) (ts : List Term) (ls : List Literal) (table : List Term) (G : Graph) : Type 0 where

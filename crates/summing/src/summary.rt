@@ -10,11 +10,11 @@ ghost use mathlib.Core.Path.{_≡_};
 ghost use Prim.Native.Nat.{_+_, _*_, _^_, _≤_, _<_};
 ghost use lib.ListN.{length};
 ghost use Rattle.tables.specs.Words.{pair, keep, pairsBelow};
-ghost use Rattle.marking.specs.Marks.{PairMarked, Covered, Square, Within};
+ghost use Rattle.marking.specs.Marks.{PairMarked, Covered, Within, RowsOf};
 ghost use Rattle.marking.specs.Drawn.{DrawnSome};
 ghost use Rattle.clauses.specs.Records.{conclusionRecord};
 ghost use Rattle.summing.specs.Writing.{putRecord, marked, rowPairs};
-ghost use Rattle.summing.specs.Written.{Clear, ReadableSome, ClausesPut, FirstB, LastB, Concluding, notAt, LastPut, AskingSome, sideOf, Summarised};
+ghost use Rattle.summing.specs.Written.{Clear, Blank, ReadableSome, ClausesPut, FirstB, LastB, Concluding, notAt, LastPut, AskingSome, sideOf, Summarised};
 ghost use mathlib.Core.Bool.{true, false};
 
 // One clause: the premises of the path between u and v, and then the pair itself.
@@ -23,14 +23,14 @@ fn clause_out(
     vertices: u16,
     u: u16,
     v: u16,
-    found: &mut [bool; 261121],
+    found: &mut [bool],
     out: &mut [u8],
     at: usize,
 ) -> usize
     requires { ⌜ ReadableSome d vertices (λ p. p ≡ pair u v) ⌝ }
     requires { ⌜ (u < v) × (v < vertices) × (vertices ≤ 511) × (at + 261122 < 2 ^ 60) ⌝ }
-    requires { ⌜ (length (now found) ≡ 261121) × Clear (now found) ⌝ }
-    ensures { λ r. ⌜ ClausesPut d vertices (λ p. p ≡ pair u v) (pair u v ∷ []) 1 at (now (out .entry)) r (now (found .exit)) (now (out .exit)) ⌝ }
+    requires { ⌜ Blank vertices (now found) ⌝ }
+    ensures { λ r. ⌜ ClausesPut d vertices (λ p. p ≡ pair u v) (pair u v ∷ []) 1 at (now (found .entry)) (now (out .entry)) r (now (found .exit)) (now (out .exit)) ⌝ }
 {
     let inb = d.inb;
     let t = drawing::trail(d, u, v);
@@ -61,15 +61,15 @@ fn clauses_row(
     d: Drawing,
     vertices: u16,
     u: u16,
-    pairs: &[bool; 261121],
-    found: &mut [bool; 261121],
+    pairs: &[bool],
+    found: &mut [bool],
     out: &mut [u8],
     at: usize,
 ) -> usize
     requires { ⌜ ReadableSome d vertices (PairMarked (now pairs)) ⌝ }
-    requires { ⌜ (u < vertices) × (vertices ≤ 511) × (at + 261122 * 512 < 2 ^ 60) ⌝ }
-    requires { ⌜ (length (now found) ≡ 261121) × Clear (now found) ⌝ }
-    ensures { λ r. ⌜ ClausesPut d vertices (PairMarked (now (pairs .entry))) (keep (marked (now (pairs .entry))) (rowPairs vertices u)) 511 at (now (out .entry)) r (now (found .exit)) (now (out .exit)) ⌝ }
+    requires { ⌜ (u < vertices) × (vertices ≤ 511) × (511 * vertices ≤ length (now pairs)) × (at + 261122 * 512 < 2 ^ 60) ⌝ }
+    requires { ⌜ Blank vertices (now found) ⌝ }
+    ensures { λ r. ⌜ ClausesPut d vertices (PairMarked (now (pairs .entry))) (keep (marked (now (pairs .entry))) (rowPairs vertices u)) 511 at (now (found .entry)) (now (out .entry)) r (now (found .exit)) (now (out .exit)) ⌝ }
 {
     let mut n = at;
     let mut v = u + 1;
@@ -86,16 +86,16 @@ fn clauses_row(
 fn clauses_out(
     d: Drawing,
     vertices: u16,
-    pairs: &[bool; 261121],
+    pairs: &[bool],
     rows: &[bool; 511],
-    found: &mut [bool; 261121],
+    found: &mut [bool],
     out: &mut [u8],
     at: usize,
 ) -> usize
     requires { ⌜ ReadableSome d vertices (PairMarked (now pairs)) ⌝ }
-    requires { ⌜ (vertices ≤ 511) × (at + 261122 * 262144 < 2 ^ 60) × Covered (now pairs) (now rows) ⌝ }
-    requires { ⌜ (length (now found) ≡ 261121) × Clear (now found) ⌝ }
-    ensures { λ r. ⌜ ClausesPut d vertices (PairMarked (now (pairs .entry))) (keep (marked (now (pairs .entry))) (pairsBelow vertices)) 261121 at (now (out .entry)) r (now (found .exit)) (now (out .exit)) ⌝ }
+    requires { ⌜ (vertices ≤ 511) × (511 * vertices ≤ length (now pairs)) × (at + 261122 * 262144 < 2 ^ 60) × Covered (now pairs) (now rows) ⌝ }
+    requires { ⌜ Blank vertices (now found) ⌝ }
+    ensures { λ r. ⌜ ClausesPut d vertices (PairMarked (now (pairs .entry))) (keep (marked (now (pairs .entry))) (pairsBelow vertices)) 261121 at (now (found .entry)) (now (out .entry)) r (now (found .exit)) (now (out .exit)) ⌝ }
 {
     let mut n = at;
     let mut u = 0u16;
@@ -148,18 +148,11 @@ fn last_b(
 }
 
 // Marks the pairs that the clauses of a disequality conclude: what its middle stretch reaches, and what its outer ones reach without their own factors.
-fn conclude(
-    d: Drawing,
-    t: Trail,
-    lo: usize,
-    hi: usize,
-    pairs: &mut [bool; 261121],
-    rows: &mut [bool; 511],
-)
-    requires { ⌜ DrawnSome d ⌝ }
+fn conclude(d: Drawing, t: Trail, lo: usize, hi: usize, pairs: &mut [bool], rows: &mut [bool; 511])
+    requires { ⌜ DrawnSome d (length (now pairs)) ⌝ }
     requires { ⌜ Within (t .stops) (t .edges) 0 (t .hops) × (lo ≤ hi) × (hi ≤ t .hops) ⌝ }
-    requires { ⌜ Square (now pairs) (now rows) × Clear (now pairs) ⌝ }
-    ensures { λ _. ⌜ Concluding d (t .stops) (t .edges) lo hi (t .hops) (now (pairs .exit)) (now (rows .exit)) ⌝ }
+    requires { ⌜ RowsOf (length (now pairs)) (t .stops) (t .hops) × Clear (now pairs) × (length (now rows) ≡ 511) ⌝ }
+    ensures { λ _. ⌜ (length (now (pairs .exit)) ≡ length (now (pairs .entry))) × Concluding d (t .stops) (t .edges) lo hi (t .hops) (now (pairs .exit)) (now (rows .exit)) ⌝ }
 {
     let inb = d.inb;
     let mut inside = [false; 510];
@@ -205,14 +198,14 @@ fn last_out(
     t: Trail,
     lo: usize,
     hi: usize,
-    found: &mut [bool; 261121],
+    found: &mut [bool],
     out: &mut [u8],
     at: usize,
 ) -> usize
-    requires { ⌜ DrawnSome d ⌝ }
+    requires { ⌜ DrawnSome d (length (now found)) ⌝ }
     requires { ⌜ Within (t .stops) (t .edges) 0 (t .hops) × (lo ≤ hi) × (hi ≤ t .hops) × (vertices ≤ 511) × (at + 261122 < 2 ^ 60) ⌝ }
-    requires { ⌜ (length (now found) ≡ 261121) × Clear (now found) ⌝ }
-    ensures { λ r. ⌜ LastPut d vertices (t .stops) (t .edges) lo hi (t .hops) at (now (out .entry)) r (now (found .exit)) (now (out .exit)) ⌝ }
+    requires { ⌜ RowsOf (length (now found)) (t .stops) (t .hops) × Blank vertices (now found) ⌝ }
+    ensures { λ r. ⌜ LastPut d vertices (t .stops) (t .edges) lo hi (t .hops) at (now (found .entry)) (now (out .entry)) r (now (found .exit)) (now (out .exit)) ⌝ }
 {
     let inb = d.inb;
     let stops = t.stops;
@@ -237,27 +230,45 @@ fn last_out(
 }
 
 // "Disequality in B: the path clauses of the path between its sides."
-fn write_b(d: Drawing, vertices: u16, colours: &[u8; 511], s: u16, t: u16, out: &mut [u8]) -> usize
+fn write_b(
+    d: Drawing,
+    vertices: u16,
+    colours: &[u8; 511],
+    s: u16,
+    t: u16,
+    pairs: &mut [bool],
+    found: &mut [bool],
+    out: &mut [u8],
+) -> usize
     requires { ⌜ AskingSome d vertices (now colours) s t × (vertices ≤ 511) ⌝ }
+    requires { ⌜ Blank vertices (now pairs) × Blank vertices (now found) ⌝ }
     ensures { λ r. ⌜ Summarised d vertices (now (colours .entry)) s t (sideOf false) (now (out .entry)) r (now (out .exit)) ⌝ }
 {
     let p = drawing::trail(d, s, t);
     let hops = p.hops;
-    let mut pairs = [false; 261121];
     let mut rows = [false; 511];
-    let mut found = [false; 261121];
-    conclude(d, p, 0, hops, &mut pairs, &mut rows);
+    conclude(d, p, 0, hops, pairs, &mut rows);
     let mut none = [0u8; 1];
-    let n = clauses_out(d, vertices, &pairs, &rows, &mut found, &mut none, 0);
+    let n = clauses_out(d, vertices, pairs, &rows, found, &mut none, 0);
     if out.len() / 8 < n {
         return n;
     }
-    clauses_out(d, vertices, &pairs, &rows, &mut found, out, 0)
+    clauses_out(d, vertices, pairs, &rows, found, out, 0)
 }
 
 // "Disequality in A": the path clauses of the middle stretch and of the outer premises, and a last clause.
-fn write_a(d: Drawing, vertices: u16, colours: &[u8; 511], s: u16, t: u16, out: &mut [u8]) -> usize
+fn write_a(
+    d: Drawing,
+    vertices: u16,
+    colours: &[u8; 511],
+    s: u16,
+    t: u16,
+    pairs: &mut [bool],
+    found: &mut [bool],
+    out: &mut [u8],
+) -> usize
     requires { ⌜ AskingSome d vertices (now colours) s t × (vertices ≤ 511) ⌝ }
+    requires { ⌜ Blank vertices (now pairs) × Blank vertices (now found) ⌝ }
     ensures { λ r. ⌜ Summarised d vertices (now (colours .entry)) s t (sideOf true) (now (out .entry)) r (now (out .exit)) ⌝ }
 {
     let p = drawing::trail(d, s, t);
@@ -266,22 +277,43 @@ fn write_a(d: Drawing, vertices: u16, colours: &[u8; 511], s: u16, t: u16, out: 
     let hops = p.hops;
     let lo = first_b(colours, &stops, &edges, hops);
     let hi = last_b(colours, &stops, &edges, lo, hops);
-    let mut pairs = [false; 261121];
     let mut rows = [false; 511];
-    let mut found = [false; 261121];
-    conclude(d, p, lo, hi, &mut pairs, &mut rows);
+    conclude(d, p, lo, hi, pairs, &mut rows);
     let mut none = [0u8; 1];
-    let m = clauses_out(d, vertices, &pairs, &rows, &mut found, &mut none, 0);
-    let n = last_out(d, vertices, p, lo, hi, &mut found, &mut none, m);
+    let m = clauses_out(d, vertices, pairs, &rows, found, &mut none, 0);
+    let n = last_out(d, vertices, p, lo, hi, found, &mut none, m);
     if out.len() / 8 < n {
         return n;
     }
-    let m = clauses_out(d, vertices, &pairs, &rows, &mut found, out, 0);
-    last_out(d, vertices, p, lo, hi, &mut found, out, m)
+    let m = clauses_out(d, vertices, pairs, &rows, found, out, 0);
+    last_out(d, vertices, p, lo, hi, found, out, m)
 }
 
-// All clause records of a disequality between s and t, where all of them have room; returns how many there are. The marks are made once: a run over
-// one byte counts, and the next one writes.
+// The records of a disequality of a side. The marks are made once: a run over one byte counts, and the next one writes.
+fn write_side(
+    d: Drawing,
+    vertices: u16,
+    colours: &[u8; 511],
+    ina: bool,
+    s: u16,
+    t: u16,
+    pairs: &mut [bool],
+    found: &mut [bool],
+    out: &mut [u8],
+) -> usize
+    requires { ⌜ AskingSome d vertices (now colours) s t × (vertices ≤ 511) ⌝ }
+    requires { ⌜ Blank vertices (now pairs) × Blank vertices (now found) ⌝ }
+    ensures { λ r. ⌜ Summarised d vertices (now (colours .entry)) s t (sideOf ina) (now (out .entry)) r (now (out .exit)) ⌝ }
+{
+    if ina {
+        write_a(d, vertices, colours, s, t, pairs, found, out)
+    } else {
+        write_b(d, vertices, colours, s, t, pairs, found, out)
+    }
+}
+
+// All clause records of a disequality between s and t, where all of them have room; returns how many there are. The squares of marks have a row of
+// 511 for each vertex, and a small graph is lent small ones, so that few marks have to be cleared.
 pub fn write(
     d: Drawing,
     vertices: u16,
@@ -294,9 +326,17 @@ pub fn write(
     requires { ⌜ AskingSome d vertices (now colours) s t × (vertices ≤ 511) ⌝ }
     ensures { λ r. ⌜ Summarised d vertices (now (colours .entry)) s t (sideOf ina) (now (out .entry)) r (now (out .exit)) ⌝ }
 {
-    if ina {
-        write_a(d, vertices, colours, s, t, out)
-    } else {
-        write_b(d, vertices, colours, s, t, out)
+    if vertices <= 32 {
+        let mut pairs = [false; 16352];
+        let mut found = [false; 16352];
+        return write_side(d, vertices, colours, ina, s, t, &mut pairs, &mut found, out);
     }
+    if vertices <= 128 {
+        let mut pairs = [false; 65408];
+        let mut found = [false; 65408];
+        return write_side(d, vertices, colours, ina, s, t, &mut pairs, &mut found, out);
+    }
+    let mut pairs = [false; 261121];
+    let mut found = [false; 261121];
+    write_side(d, vertices, colours, ina, s, t, &mut pairs, &mut found, out)
 }

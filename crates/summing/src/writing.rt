@@ -26,9 +26,9 @@ pub fn put(out: &mut [u8], at: usize, kind: u8, left: u16, right: u16)
 }
 
 // The marked premises of one row of the square, as records; their marks are taken away.
-fn row_out(found: &mut [bool; 261121], u: u16, vertices: u16, out: &mut [u8], at: usize) -> usize
+fn row_out(found: &mut [bool], u: u16, vertices: u16, out: &mut [u8], at: usize) -> usize
     requires { ⌜ (u < vertices) × (vertices ≤ 511) × (at + 511 < 2 ^ 60) ⌝ }
-    requires { ⌜ length (now found) ≡ 261121 ⌝ }
+    requires { ⌜ 511 * vertices ≤ length (now found) ⌝ }
     ensures { λ r. ⌜ RowOut vertices u at (now (found .entry)) (now (out .entry)) r (now (found .exit)) (now (out .exit)) ⌝ }
 {
     let mut n = at;
@@ -47,14 +47,14 @@ fn row_out(found: &mut [bool; 261121], u: u16, vertices: u16, out: &mut [u8], at
 
 // All marked premises, as records in ascending order; their marks are taken away. Rows without a mark are passed over.
 pub fn premises_out(
-    found: &mut [bool; 261121],
+    found: &mut [bool],
     rows: &[bool; 511],
     vertices: u16,
     out: &mut [u8],
     at: usize,
 ) -> usize
     requires { ⌜ (vertices ≤ 511) × (at + 261121 < 2 ^ 60) ⌝ }
-    requires { ⌜ (length (now found) ≡ 261121) × Covered (now found) (now rows) ⌝ }
+    requires { ⌜ (511 * vertices ≤ length (now found)) × Covered (now found) (now rows) ⌝ }
     ensures { λ r. ⌜ AllOut vertices at (now (found .entry)) (now (out .entry)) r (now (found .exit)) (now (out .exit)) ⌝ }
 {
     let mut n = at;

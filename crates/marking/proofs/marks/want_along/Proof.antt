@@ -15,16 +15,22 @@ want-edges-requires-2 : tie.Need-want-edges-requires-2
 want-edges-requires-2 c κs = search needs
 
 -- where the first test's ways meet
-ends-met : (c : tie.Joined1) → EndsDone (c .before .args .inb .now) (c .before .args .stops .now) (c .before .args .edges .now) (c .before .args .lo) (c .before .args .hi) (c .before .args .b) (c .before .args .whole) (c .before .args .pairs .now) (c .before .args .rows .now) (c .if1 .pairs) (c .if1 .rows)
+ends-met : (c : tie.Joined1) → EndsDone (c .before .before .args .inb .now) (c .before .before .args .stops .now) (c .before .before .args .edges .now) (c .before .before .args .lo) (c .before .before .args .hi) (c .before .before .args .b) (c .before .before .args .whole) (c .before .before .args .pairs .now) (c .before .before .args .rows .now) (c .if1 .pairs) (c .if1 .rows)
 ends-met c =
-    ⊎-elim (λ w. ends-named _ _ _ _ _ _ _ _ _ _ _ _ _ (w .4) (w .5) (ends-count _ _ _ _ _ _ _ _ _ _ _ (w .0 .taken) (w .3 .ensures)))
-    (λ w. ends-named _ _ _ _ _ _ _ _ _ _ _ _ _ (w .1) (w .2) (ends-left _ _ _ _ _ _ _ _ _ (w .0 .left) (c .before .pre .1 .0))) (c .if1 .came)
+    ⊎-elim (λ w. ends-named _ _ _ _ _ _ _ _ _ _ _ _ _ (w .6) (w .7) (ends-count _ _ _ _ _ _ _ _ _ _ _ (w .0 .taken) (w .3 .ensures)))
+    (λ w. ends-named _ _ _ _ _ _ _ _ _ _ _ _ _ (w .1) (w .2) (ends-left _ _ _ _ _ _ _ _ _ (w .0 .left) (c .before .before .pre .1 .1 .rows-sized))) (c .if1 .came)
+
+same-length : tie.Need-same-length
+same-length c = ends-met (c .before .before .before .before .before) .same
 
 returns : tie.Need-returns
 returns c = all-wanted _ _ _ _ _ _ _ _ _ _ _ _ _ _ _ (ends-met (c .before .before .before .before .before)) (c .before .before .before .want-edges .ensures) (under-count _ _ _ _ _ _ _ _ _ (c .before .before .if2 .taken) (c .want-edges2 .ensures))
 
+same-length-2 : tie.Need-same-length-2
+same-length-2 c = ends-met (c .before .before .before) .same
+
 returns-2 : tie.Need-returns-2
-returns-2 c = all-wanted _ _ _ _ _ _ _ _ _ _ _ _ _ _ _ (ends-met (c .before .before .before)) (c .before .want-edges .ensures) (under-left _ _ _ _ _ _ _ _ (c .if2 .left) (c .before .before .before .before .pre .1 .1 .1))
+returns-2 c = all-wanted _ _ _ _ _ _ _ _ _ _ _ _ _ _ _ (ends-met (c .before .before .before)) (c .before .want-edges .ensures) (under-left _ _ _ _ _ _ _ _ (c .if2 .left) (c .before .before .before .before .before .pre .1 .1 .under-sized))
 
 pub want-along-spec : {M : Type 1} → statement M
-want-along-spec = tie.close (tie.spec want-factors-requires want-edges-requires want-edges-requires-2 returns returns-2)
+want-along-spec = tie.close (tie.spec want-factors-requires want-edges-requires want-edges-requires-2 same-length returns same-length-2 returns-2)

@@ -4,7 +4,7 @@ use native.Mathlib.Omega.{arith}
 use borrow.Author.Needs.{needs}
 use Rattle.graphs.specs.Trails.{Room, trail}
 use Rattle.marking.specs.Drawn.{drawing}
-use Rattle.marking.proofs.Owing.{EdgeTo, edge-none, edge-more, edge-all, Bounds, bounds, path-asked, path-given}
+use Rattle.marking.proofs.Owing.{EdgeTo, edge-none, edge-more, edge-all, Bounds, bounds, path-asked, path-rows, path-given}
 use Rattle.marking.proofs.settling.settle_edge.Statement.{statement}
 use Rattle.marking.proofs.settling.settle_edge.Tie as tie
 
@@ -18,95 +18,98 @@ abbrev μ-loop : tie.MeasureT-loop
 
 -- the places that the edge leads to
 start : (c : tie.Start Inv-loop μ-loop) → Bounds (drawing (c .args .args .now) (c .args .arities .now) (c .args .toward .now) (c .args .by .now) (c .args .rank .now) (c .args .lefts .now) (c .args .rights .now) (c .args .inb .now) (c .args .derived .now) (c .args .count)) (c .args .i) (c .pre .1 .1 .0)
-start c = bounds _ _ (c .pre .1 .1 .0) (c .pre .0)
+start c = bounds _ _ (c .pre .1 .1 .0) _ (c .pre .0)
 
 mul-l : tie.Need-mul-l Inv-loop μ-loop
-mul-l c = omega (arith, start (c))
+mul-l c = omega (arith, start (c .before))
 
 element-copy-out-l : tie.Need-element-copy-out-l Inv-loop μ-loop
-element-copy-out-l c = omega (arith, start (c))
+element-copy-out-l c = omega (arith, start (c .before))
 
 cast-l : tie.Need-cast-l Inv-loop μ-loop
-cast-l c = omega (arith, start (c .before))
+cast-l c = omega (arith, start (c .before .before))
 
 mul-r : tie.Need-mul-r Inv-loop μ-loop
-mul-r c = omega (arith, start (c .before))
+mul-r c = omega (arith, start (c .before .before))
 
 element-copy-out-r : tie.Need-element-copy-out-r Inv-loop μ-loop
-element-copy-out-r c = omega (arith, start (c .before))
+element-copy-out-r c = omega (arith, start (c .before .before))
 
 cast-r : tie.Need-cast-r Inv-loop μ-loop
-cast-r c = omega (arith, start (c .before .before))
+cast-r c = omega (arith, start (c .before .before .before))
 
 element-copy-out-arity : tie.Need-element-copy-out-arity Inv-loop μ-loop
-element-copy-out-arity c = omega (arith, start (c .before .before))
+element-copy-out-arity c = omega (arith, start (c .before .before .before))
 
 cast-arity : tie.Need-cast-arity Inv-loop μ-loop
-cast-arity c = omega (arith, start (c .before .before .before))
+cast-arity c = omega (arith, start (c .before .before .before .before))
 
 loop-holds : tie.Need-loop-holds Inv-loop μ-loop
-loop-holds c = (omega arith, edge-none _ _ _ _ _ _ _ _ (c .before .before .before .before .before .pre .1 .0), search needs)
+loop-holds c = (omega arith, edge-none _ _ _ _ _ _ _ _ (c .before .before .before .before .before .before .pre .1 .0), search needs)
 
 mul-u : tie.Need-mul-u Inv-loop μ-loop
-mul-u c = omega (arith, start (c .before .before .before .before .before .before .before))
+mul-u c = omega (arith, start (c .before .before .before .before .before .before .before .before))
 
 add-u : tie.Need-add-u Inv-loop μ-loop
-add-u c = omega (arith, start (c .before .before .before .before .before .before .before))
+add-u c = omega (arith, start (c .before .before .before .before .before .before .before .before))
 
 mul-u-2 : tie.Need-mul-u-2 Inv-loop μ-loop
-mul-u-2 c = omega (arith, start (c .before .before .before .before .before .before .before))
+mul-u-2 c = omega (arith, start (c .before .before .before .before .before .before .before .before))
 
 element-copy-out-u : tie.Need-element-copy-out-u Inv-loop μ-loop
-element-copy-out-u c = omega (arith, start (c .before .before .before .before .before .before .before))
+element-copy-out-u c = omega (arith, start (c .before .before .before .before .before .before .before .before))
 
 mul-v : tie.Need-mul-v Inv-loop μ-loop
-mul-v c = omega (arith, start (c .before .before .before .before .before .before .before .before))
+mul-v c = omega (arith, start (c .before .before .before .before .before .before .before .before .before))
 
 add-v : tie.Need-add-v Inv-loop μ-loop
-add-v c = omega (arith, start (c .before .before .before .before .before .before .before .before))
+add-v c = omega (arith, start (c .before .before .before .before .before .before .before .before .before))
 
 mul-v-2 : tie.Need-mul-v-2 Inv-loop μ-loop
-mul-v-2 c = omega (arith, start (c .before .before .before .before .before .before .before .before))
+mul-v-2 c = omega (arith, start (c .before .before .before .before .before .before .before .before .before))
 
 element-copy-out-v : tie.Need-element-copy-out-v Inv-loop μ-loop
-element-copy-out-v c = omega (arith, start (c .before .before .before .before .before .before .before .before))
+element-copy-out-v c = omega (arith, start (c .before .before .before .before .before .before .before .before .before))
 
 lay-path-requires : tie.Need-lay-path-requires Inv-loop μ-loop
 lay-path-requires c κs =
-    let s = c .before .before .before .before .before .before .before .before .before .before .before in
+    let s = c .before .before .before .before .before .before .before .before .before .before .before .before in
     let l = c .before .before .before .before .before .loop in
-    (path-asked _ _ (s .pre .1 .1 .0) (s .pre .1 .1 .1) (l .j) (c .before .before .before .before .loop-test .taken) (s .pre .0), l .inv .2)
+    (path-asked _ _ (s .pre .1 .1 .0) (s .pre .1 .1 .1) (l .j) (c .before .before .before .before .loop-test .taken) _ (s .pre .0), l .inv .2)
 
 want-along-requires : tie.Need-want-along-requires Inv-loop μ-loop
 want-along-requires c κs =
-    let s = c .before .before .before .before .before .before .before .before .before .before .before .before .before .before .before .before .before .before in
+    let s = c .before .before .before .before .before .before .before .before .before .before .before .before .before .before .before .before .before .before .before in
     let d = s .pre .0 in
     let l = c .before .before .before .before .before .before .before .before .before .before .before .before .loop in
-    let o = l .inv .1 .in-order in
+    let x = l .inv .1 in
     let p = c .before .before .before .before .before .before .lay-path in
     let g = path-given _ _ (s .pre .1 .1 .0) (s .pre .1 .1 .1) (l .j) (c .before .before .before .before .before .before .before .before .before .before .before .loop-test .taken) (trail (p .last .1 .1 .1 .1 .1 .0) (p .last .1 .1 .1 .1 .1 .1 .0) (p .result)) (p .ensures .1) (d .0) (d .1) (d .2) (d .3) (d .4) in
-    (g .within, (o .square, (o .inside-sized, o .under-sized)))
+    (g .within, (path-rows _ _ _ _ _ (d .4) _ (omega (arith, x .same, d .5)) g, x .in-order))
 
 add-j : tie.Need-add-j Inv-loop μ-loop
-add-j c = omega (arith, start (c .before .before .before .before .before .before .before .before .before .before .before .before .before .before .before .before .before .before .before), c .before .before .before .before .before .before .before .before .before .before .before .before .loop-test .taken)
+add-j c = omega (arith, start (c .before .before .before .before .before .before .before .before .before .before .before .before .before .before .before .before .before .before .before .before .before .before), c .before .before .before .before .before .before .before .before .before .before .before .before .before .before .loop-test .taken)
 
 loop-less : tie.Need-loop-less Inv-loop μ-loop
-loop-less c = omega (arith, c .before .before .before .before .before .before .before .before .before .before .before .before .loop-test .taken)
+loop-less c = omega (arith, c .before .before .before .before .before .before .before .before .before .before .before .before .before .before .loop-test .taken)
 
 loop-again : tie.Need-loop-again Inv-loop μ-loop
 loop-again c =
-    let s = c .before .before .before .before .before .before .before .before .before .before .before .before .before .before .before .before .before .before .before in
-    let l = c .before .before .before .before .before .before .before .before .before .before .before .before .before .loop in
-    let t = c .before .before .before .before .before .before .before .before .before .before .before .before .loop-test .taken in
-    let p = c .before .before .before .before .before .before .before .lay-path in
+    let s = c .before .before .before .before .before .before .before .before .before .before .before .before .before .before .before .before .before .before .before .before .before .before in
+    let l = c .before .before .before .before .before .before .before .before .before .before .before .before .before .before .before .loop in
+    let t = c .before .before .before .before .before .before .before .before .before .before .before .before .before .before .loop-test .taken in
+    let p = c .before .before .before .before .before .before .before .before .before .lay-path in
     let stops = p .last .1 .1 .1 .1 .1 .0 in
     let ways = p .last .1 .1 .1 .1 .1 .1 .0 in
-    let more = edge-more _ _ _ _ (s .pre .1 .1 .0) (s .pre .1 .1 .1) _ _ _ _ (l .j) _ _ _ _ _ _ _ _ stops ways (p .result) t (λ ts ls table G d. path-given _ _ (s .pre .1 .1 .0) (s .pre .1 .1 .1) (l .j) t (trail stops ways (p .result)) (p .ensures .1) ts ls table G d .trailed) (l .inv .1) (c .want-along .ensures) in
+    let more = edge-more _ _ _ _ (s .pre .1 .1 .0) (s .pre .1 .1 .1) _ _ _ _ (l .j) _ _ _ _ _ _ _ _ stops ways (p .result) t (λ ts ls table G d. path-given _ _ (s .pre .1 .1 .0) (s .pre .1 .1 .1) (l .j) t (trail stops ways (p .result)) (p .ensures .1) ts ls table G d .trailed) (l .inv .1) (c .before .before .want-along .ensures) in
     (omega (arith, t), more, p .ensures .0)
+
+same-length : tie.Need-same-length Inv-loop μ-loop
+same-length c = c .before .loop .inv .1 .same
 
 returns : tie.Need-returns Inv-loop μ-loop
 returns c =
-    let s = c .before .before .before .before .before .before .before in
+    let s = c .before .before .before .before .before .before .before .before in
     let x = c .before .loop .inv in
     edge-all _ _ _ _ (s .pre .1 .1 .0) (s .pre .1 .1 .1) _ _ _ _ (c .before .loop .j) _ _ _ _ (omega (arith, x .0, c .loop-test .left)) (x .1)
 
@@ -138,4 +141,5 @@ settle-edge-spec =
     add-j
     loop-less
     loop-again
+    same-length
     returns)

@@ -1,9 +1,17 @@
 -- `clause_out` meets its contract: the premises of the path between u and v are marked, written and cleared; then the pair is written.
 use mathlib.Core.Bool.{false}
-use mathlib.Core.Path.{refl}
+use mathlib.Core.Path.{_≡_, refl}
 use native.Mathlib.Omega.{arith}
 use lib.ListN.{replicate, length-replicate}
-use Rattle.marking.proofs.Owing.{joins, path-read}
+use mathlib.Core.List.{List}
+use Rattle.tables.specs.Words.{pair}
+use Rattle.tables.specs.Terms.{Term}
+use Rattle.tables.specs.LiteralTable.{Literal}
+use Rattle.closure.specs.Graph.{Graph}
+use Rattle.graphs.specs.declared.paths.Trail.{Trail}
+use Rattle.graphs.specs.Trails.{Joining, TrailOf}
+use Rattle.marking.proofs.Owing.{PathRead, joins, path-read, path-rows}
+use Rattle.summing.specs.Written.{Readable}
 use Rattle.summing.proofs.ClausesOut.{none-covered, clause-put}
 use borrow.Author.Needs.{needs}
 use Rattle.summing.proofs.summary.clause_out.Statement.{statement}
@@ -11,43 +19,54 @@ use Rattle.summing.proofs.summary.clause_out.Tie as tie
 
 trail-requires : tie.Need-trail-requires
 trail-requires c κs =
-    let s = c .before .before .pre .0 in
+    let s = c .before .before .before .pre .0 in
     let x = s .4 in
-    let p = c .before .before .pre .1 .0 in
+    let p = c .before .before .before .pre .1 .0 in
     (omega (arith, p .0, p .1, p .2), omega (arith, p .1, p .2), (s .3, joins _ _ _ _ _ (x .drawn) (x .connected _ (p .0, p .1) refl)))
+
+-- the path between u and v, in each graph that the arrays hold
+path-here : (c : tie.Start) (r : Trail) → ((G : Graph) → Joining (c .args .d .toward) (c .args .d .by) (c .args .d .rank) (c .args .u) (c .args .v) G → TrailOf G (c .args .u) (c .args .v) r) → (ts : List Term) (ls : List Literal) (table : List Term) (G : Graph) (x : Readable (c .args .d) (c .args .vertices) (λ p. p ≡ pair (c .args .u) (c .args .v)) ts ls table G) → PathRead (c .args .d) ts ls table G (x .drawn) (c .args .u) (c .args .v) (r .hops) (r .stops) (r .edges)
+path-here c r given ts ls table G x =
+    let p = c .pre .1 .0 in
+    let j = x .connected _ (p .0, p .1) refl in
+    path-read _ _ _ _ _ (x .drawn) (c .args .u) (c .args .v) (omega (arith, p .0, p .1, x .terms)) j r (given G (joins _ _ _ _ _ (x .drawn) j))
 
 want-requires : tie.Need-want-requires
 want-requires c κs =
-    let x = c .before .before .before .before .before .before .before .before .pre .0 .4 in
-    let p = c .before .before .before .before .before .before .before .before .pre .1 .0 in
-    let g = path-read _ _ _ _ _ (x .drawn) (c .before .before .before .before .before .before .before .before .args .u) (c .before .before .before .before .before .before .before .before .args .v) (omega (arith, p .0, p .1, p .2)) (x .connected _ (p .0, p .1) refl) (c .before .before .before .before .before .trail .result) (c .before .before .before .before .before .trail .ensures _ (joins _ _ _ _ _ (x .drawn) (x .connected _ (p .0, p .1) refl))) in
-    (g .within, ((c .before .before .before .before .before .before .before .before .pre .1 .1 .0, length-replicate 511 false), (length-replicate 510 false, length-replicate 510 false)))
+    let s = c .before .before .before .before .before .before .before .before .before .pre .0 in
+    let g = path-here (c .before .before .before .before .before .before .before .before .before) (c .before .before .before .before .before .trail .result) (c .before .before .before .before .before .trail .ensures) (s .0) (s .1) (s .2) (s .3) (s .4) in
+    (g .within, (path-rows _ _ _ _ _ (s .4 .drawn) _ (omega (arith, s .4 .terms, c .before .before .before .before .before .before .before .before .before .pre .1 .1 .rows)) g, record { rows-sized = length-replicate 511 false; inside-sized = length-replicate 510 false; under-sized = length-replicate 510 false }))
 
 settle-requires : tie.Need-settle-requires
 settle-requires c κs =
-    let s = c .before .before .before .before .before .before .before .before .before .before .before .before .before .pre .0 in
-    let w = c .before .before .before .before .want .ensures in
-    ((s .0, s .1, s .2, s .3, s .4 .drawn), record { square = w .square; inside-sized = w .inside-sized; under-sized = w .under-sized })
+    let s = c .before .before .before .before .before .before .before .before .before .before .before .before .before .before .before .before .pre .0 in
+    let w = c .before .before .before .before .before .before .want .ensures in
+    ((s .0, s .1, s .2, s .3, s .4 .drawn, omega (arith, s .4 .terms, c .before .before .before .before .before .before .before .before .before .before .before .before .before .before .before .before .pre .1 .1 .rows, w .same)), w .in-order)
 
 premises-out-requires : tie.Need-premises-out-requires
 premises-out-requires c κs =
-    let p = c .before .before .before .before .before .before .before .before .before .before .before .before .before .before .before .before .before .pre .1 .0 in
-    let q = c .before .before .before .settle .ensures in
-    ((p .2, omega (arith, p .3)), (q .in-order .square .0, q .cover (c .before .before .before .before .before .before .before .before .want .ensures .cover (none-covered (c .before .before .before .before .before .before .before .before .before .before .before .before .before .before .before .before .before .args .found .now) (c .before .before .before .before .before .before .before .before .before .before .before .before .before .before .before .before .before .pre .1 .1 .1) (replicate 511 false)))))
+    let p = c .before .before .before .before .before .before .before .before .before .before .before .before .before .before .before .before .before .before .before .before .before .before .pre .1 in
+    let w = c .before .before .before .before .before .before .before .before .before .before .before .before .want .ensures in
+    let q = c .before .before .before .before .before .settle .ensures in
+    ((p .0 .2, omega (arith, p .0 .3)), (omega (arith, p .1 .rows, w .same, q .same), q .cover (w .cover (none-covered (c .before .before .before .before .before .before .before .before .before .before .before .before .before .before .before .before .before .before .before .before .before .before .args .found .now) (p .1 .clear) (replicate 511 false)))))
 
 put-requires : tie.Need-put-requires
-put-requires c κs = omega (arith, c .before .before .before .premises-out .ensures .few, c .before .before .before .before .before .before .before .before .before .before .before .before .before .before .before .before .before .before .before .before .before .pre .1 .0 .3)
+put-requires c κs = omega (arith, c .before .before .before .before .before .premises-out .ensures .few, c .before .before .before .before .before .before .before .before .before .before .before .before .before .before .before .before .before .before .before .before .before .before .before .before .before .before .before .before .pre .1 .0 .3)
 
 add-result : tie.Need-add-result
-add-result c = omega (arith, c .before .before .before .before .before .before .premises-out .ensures .few, c .before .before .before .before .before .before .before .before .before .before .before .before .before .before .before .before .before .before .before .before .before .before .before .before .pre .1 .0 .3)
+add-result c = omega (arith, c .before .before .before .before .before .before .before .before .premises-out .ensures .few, c .before .before .before .before .before .before .before .before .before .before .before .before .before .before .before .before .before .before .before .before .before .before .before .before .before .before .before .before .before .before .before .pre .1 .0 .3)
 
 same-length : tie.Need-same-length
 same-length c = search needs
 
+same-length-2 : tie.Need-same-length-2
+same-length-2 c = search needs
+
 returns : tie.Need-returns
 returns c =
-    let p = c .before .before .before .before .before .before .before .before .before .before .before .before .before .before .before .before .before .before .before .before .before .before .before .before .pre .1 .0 in
-    clause-put _ _ _ _ (p .0) (p .1) (p .2) (c .before .before .before .before .before .before .before .before .before .before .before .before .before .before .before .before .before .before .before .before .before .before .before .before .pre .0) (c .before .before .before .before .before .before .before .before .before .before .before .before .before .before .before .before .before .before .before .before .before .trail .result .stops) (c .before .before .before .before .before .before .before .before .before .before .before .before .before .before .before .before .before .before .before .before .before .trail .result .edges) (c .before .before .before .before .before .before .before .before .before .before .before .before .before .before .before .before .before .before .before .before .before .trail .result .hops) (λ ts ls table G x. path-read _ _ _ _ _ (x .drawn) (c .before .before .before .before .before .before .before .before .before .before .before .before .before .before .before .before .before .before .before .before .before .before .before .before .args .u) (c .before .before .before .before .before .before .before .before .before .before .before .before .before .before .before .before .before .before .before .before .before .before .before .before .args .v) (omega (arith, p .0, p .1, p .2)) (x .connected _ (p .0, p .1) refl) (c .before .before .before .before .before .before .before .before .before .before .before .before .before .before .before .before .before .before .before .before .before .trail .result) (c .before .before .before .before .before .before .before .before .before .before .before .before .before .before .before .before .before .before .before .before .before .trail .ensures _ (joins _ _ _ _ _ (x .drawn) (x .connected _ (p .0, p .1) refl))) .trailed) _ _ _ _ _ _ _ _ _ _ _ _ _ _ _ (c .before .before .before .before .before .before .before .before .before .before .before .before .before .before .before .before .before .before .before .before .before .before .before .before .pre .1 .1 .1) (c .before .before .before .before .before .before .before .before .before .before .before .before .before .before .before .want .ensures) (c .before .before .before .before .before .before .before .before .before .before .settle .ensures) (c .before .before .before .before .before .before .premises-out .ensures) _ (c .before .before .put .ensures)
+    let p = c .before .before .before .before .before .before .before .before .before .before .before .before .before .before .before .before .before .before .before .before .before .before .before .before .before .before .before .before .before .before .before .pre in
+    let t = c .before .before .before .before .before .before .before .before .before .before .before .before .before .before .before .before .before .before .before .before .before .before .before .before .before .before .before .trail in
+    clause-put _ _ _ _ (p .1 .0 .0) (p .1 .0 .1) (p .1 .0 .2) (p .0) (t .result .stops) (t .result .edges) (t .result .hops) (λ ts ls table G x. path-here (c .before .before .before .before .before .before .before .before .before .before .before .before .before .before .before .before .before .before .before .before .before .before .before .before .before .before .before .before .before .before .before) (t .result) (t .ensures) ts ls table G x .trailed) _ _ _ _ _ _ _ _ _ _ _ _ _ _ _ (p .1 .1 .clear) (c .before .before .before .before .before .before .before .before .before .before .before .before .before .before .before .before .before .before .before .before .before .want .ensures) (c .before .before .before .before .before .before .before .before .before .before .before .before .before .before .settle .ensures) (c .before .before .before .before .before .before .before .before .premises-out .ensures) _ (c .before .before .put .ensures)
 
 pub clause-out-spec : {M : Type 1} → statement M
 clause-out-spec =
@@ -60,4 +79,5 @@ clause-out-spec =
     put-requires
     add-result
     same-length
+    same-length-2
     returns)
