@@ -162,9 +162,9 @@ module _ (rows : List (List ℕ)) (arities : List ℕ) (low : LowerRows rows ari
   pub lower-terms : LowerArguments ts
   lower-terms t h a m = low .lower t (omega arith) a (subst (List·Memᴰ a) (sym (d t)) m)
 
-  -- with t and its parts marked and nothing else, no mark is missing where each part passes
-  pub all-parts : (marks occurring : List Bool) (t : ℕ) → t < length ts → MarkedToo rows arities t (replicate 256 false) marks → not (someBelow (markedAndMissing marks occurring) (length ts)) ≡ every (λ u. getD occurring u false) (parts ts t)
-  all-parts marks occurring t h x = same-test (not (someBelow missing (length ts))) (every occurs (parts ts t)) to from
+  -- with t and its parts marked and nothing else, no mark up to t is missing where each part passes: the parts are not above t
+  pub all-parts : (marks occurring : List Bool) (t : ℕ) → t < length ts → MarkedToo rows arities t (replicate 256 false) marks → not (someBelow (markedAndMissing marks occurring) (t + 1)) ≡ every (λ u. getD occurring u false) (parts ts t)
+  all-parts marks occurring t h x = same-test (not (someBelow missing (t + 1))) (every occurs (parts ts t)) to from
     where
       missing : ℕ → Bool
       missing = markedAndMissing marks occurring
@@ -172,8 +172,8 @@ module _ (rows : List (List ℕ)) (arities : List ℕ) (low : LowerRows rows ari
       occurs : ℕ → Bool
       occurs u = getD occurring u false
 
-      to : T (not (someBelow missing (length ts))) → T (every occurs (parts ts t))
-      to k = all-every occurs (parts ts t) (λ u m. let p = mem-part ts t u m in ⊎-elim (λ (w : T (occurs u)). w) (λ (w : T (not (occurs u))). absurd (T-not (someBelow missing (length ts)) k (some-someBelow missing (length ts) u (omega (arith, part-le ts lower-terms h p)) (and-both (getD marks u false) (not (occurs u)) (part-marked rows arities ts d marks (x .closed) p (x .reached)) w)))) (decide (occurs u)))
+      to : T (not (someBelow missing (t + 1))) → T (every occurs (parts ts t))
+      to k = all-every occurs (parts ts t) (λ u m. let p = mem-part ts t u m in ⊎-elim (λ (w : T (occurs u)). w) (λ (w : T (not (occurs u))). absurd (T-not (someBelow missing (t + 1)) k (some-someBelow missing (t + 1) u (omega (arith, part-le ts lower-terms h p)) (and-both (getD marks u false) (not (occurs u)) (part-marked rows arities ts d marks (x .closed) p (x .reached)) w)))) (decide (occurs u)))
 
-      from : T (every occurs (parts ts t)) → T (not (someBelow missing (length ts)))
-      from k = not-T (someBelow missing (length ts)) (λ w. let r = someBelow-some missing (length ts) w in let m = and-left (getD marks (r .0) false) (not (occurs (r .0))) (r .2) in T-not (occurs (r .0)) (and-right (getD marks (r .0) false) (not (occurs (r .0))) (r .2)) (⊎-elim (λ (z : Marked (replicate 256 false) (r .0)). absurd (none-marked 256 (r .0) z)) (λ (p : Part ts (r .0) t). every-all occurs k (part-mem ts lower-terms h p)) (x .only ts d (r .0) m)))
+      from : T (every occurs (parts ts t)) → T (not (someBelow missing (t + 1)))
+      from k = not-T (someBelow missing (t + 1)) (λ w. let r = someBelow-some missing (t + 1) w in let m = and-left (getD marks (r .0) false) (not (occurs (r .0))) (r .2) in T-not (occurs (r .0)) (and-right (getD marks (r .0) false) (not (occurs (r .0))) (r .2)) (⊎-elim (λ (z : Marked (replicate 256 false) (r .0)). absurd (none-marked 256 (r .0) z)) (λ (p : Part ts (r .0) t). every-all occurs k (part-mem ts lower-terms h p)) (x .only ts d (r .0) m)))

@@ -58,14 +58,13 @@ fn occurs(symbols: &[u16; 256], inside: &[bool; 256], terms: usize, t: usize) ->
     ensures { λ r. ⌜ r ≡ someBelow (sameSymbolInside (now (symbols .entry)) (now (inside .entry)) t) terms ⌝ }
 {
     let symbol = symbols[t];
+    let mut found = false;
     let mut u = 0;
     while u < terms {
-        if inside[u] && symbols[u] == symbol {
-            return true;
-        }
+        found = found | (inside[u] & (symbols[u] == symbol));
         u += 1;
     }
-    false
+    found
 }
 
 // For each term, whether its symbol occurs.
@@ -82,21 +81,6 @@ pub fn occurring(symbols: &[u16; 256], inside: &[bool; 256], terms: usize) -> [b
     column
 }
 
-// Whether no marked term lacks an occurring symbol.
-fn all_occur(marks: &[bool; 256], occurring: &[bool; 256], terms: usize) -> bool
-    requires { ⌜ terms ≤ 256 ⌝ }
-    ensures { λ r. ⌜ r ≡ not (someBelow (markedAndMissing (now (marks .entry)) (now (occurring .entry))) terms) ⌝ }
-{
-    let mut u = 0;
-    while u < terms {
-        if marks[u] && !occurring[u] {
-            return false;
-        }
-        u += 1;
-    }
-    true
-}
-
 // Two colours as one number.
 fn colour_number(a: bool, b: bool) -> u8
     ensures { λ r. ⌜ r ≡ cond a 1 0 + cond b 2 0 ⌝ }
@@ -108,24 +92,37 @@ fn colour_number(a: bool, b: bool) -> u8
     }
 }
 
+// The colours of a term, as one number, from the marks of its parts, which are all below n: no part lacks an occurring symbol.
+fn parts_colour(parts: &[bool; 256], in_a: &[bool; 256], in_b: &[bool; 256], n: usize) -> u8
+    requires { ⌜ n ≤ 256 ⌝ }
+    ensures { λ r. ⌜ r ≡ cond (not (someBelow (markedAndMissing (now (parts .entry)) (now (in_a .entry))) n)) 1 0 + cond (not (someBelow (markedAndMissing (now (parts .entry)) (now (in_b .entry))) n)) 2 0 ⌝ }
+{
+    let mut not_a = false;
+    let mut not_b = false;
+    let mut u = 0;
+    while u < n {
+        not_a = not_a | (parts[u] & !in_a[u]);
+        not_b = not_b | (parts[u] & !in_b[u]);
+        u += 1;
+    }
+    colour_number(!not_a, !not_b)
+}
+
 // The colours of term t as one number: 1 where each of its symbols occurs in A, and 2 more where each occurs in B.
 fn colour(
     rows: &[[u16; 4]; 256],
     arities: &[u8; 256],
     in_a: &[bool; 256],
     in_b: &[bool; 256],
-    terms: usize,
     t: usize,
 ) -> u8
     requires { ⌜ LowerRows (now rows) (now arities) ⌝ }
-    requires { ⌜ (t < terms) × (terms ≤ 256) ⌝ }
-    ensures { λ r. ⌜ ((ts : List Term) → Describes (now (rows .entry)) (now (arities .entry)) ts → length ts ≡ terms → r ≡ partsColour (now (in_a .entry)) (now (in_b .entry)) ts t) ⌝ }
+    requires { ⌜ t < 256 ⌝ }
+    ensures { λ r. ⌜ ((ts : List Term) → Describes (now (rows .entry)) (now (arities .entry)) ts → t < length ts → length ts ≤ 256 → r ≡ partsColour (now (in_a .entry)) (now (in_b .entry)) ts t) ⌝ }
 {
     let mut parts = [false; 256];
     mark(rows, arities, &mut parts, t);
-    let a = all_occur(&parts, in_a, terms);
-    let b = all_occur(&parts, in_b, terms);
-    colour_number(a, b)
+    parts_colour(&parts, in_a, in_b, t + 1)
 }
 
 // For each term, its colours.
@@ -143,7 +140,7 @@ pub fn colours(
     let mut column = [0u8; 256];
     let mut t = 0;
     while t < terms {
-        column[t] = colour(rows, arities, in_a, in_b, terms, t);
+        column[t] = colour(rows, arities, in_a, in_b, t);
         t += 1;
     }
     column

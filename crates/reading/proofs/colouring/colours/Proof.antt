@@ -21,7 +21,7 @@ loop-holds : tie.Need-loop-holds Inv-loop μ-loop
 loop-holds c = λ ts d n. filling-none 256 0 _ _
 
 colour-requires : tie.Need-colour-requires Inv-loop μ-loop
-colour-requires c κs = (c .before .before .pre .0, (omega arith, omega arith))
+colour-requires c κs = (c .before .before .pre .0, omega arith)
 
 array-write-column : tie.Need-array-write-column Inv-loop μ-loop
 array-write-column c = omega arith
@@ -33,7 +33,7 @@ loop-less : tie.Need-loop-less Inv-loop μ-loop
 loop-less c = omega arith
 
 loop-again : tie.Need-loop-again Inv-loop μ-loop
-loop-again c = λ ts d n. filling-more _ _ _ _ _ _ _ (omega arith) (c .before .before .loop .inv ts d n) (c .before .loop-test .taken) (c .colour .ensures ts d n)
+loop-again c = λ ts d n. filling-more _ _ _ _ _ _ _ (omega arith) (c .before .before .loop .inv ts d n) (c .before .loop-test .taken) (c .colour .ensures ts d (omega arith) (omega arith))
 
 returns : tie.Need-returns Inv-loop μ-loop
 returns c = λ ts d n. filling-all _ _ _ _ _ _ _ (omega arith) (c .before .loop .inv ts d n) (c .loop-test .left)

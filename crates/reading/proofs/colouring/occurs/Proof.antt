@@ -1,21 +1,16 @@
--- `occurs` meets its contract: no term passed is inside and has the symbol.
-use mathlib.Core.Bool.{Bool, false, _&&_}
-use mathlib.Core.Logic.{⊎-elim}
-use mathlib.Core.Path.{_≡_, refl, ap, ap₂}
-use lib.Dec.{eqb}
-use lib.ListN.{getD}
+-- `occurs` meets its contract: what was found is whether a term passed is inside and has the symbol.
 use Prim.Native.Nat.{_-_}
 use native.Mathlib.Omega.{arith}
 use Rattle.reading.specs.Marks.{sameSymbolInside}
-use Rattle.tables.proofs.Records.{NoneYet, none-yet, some-passed, none-more, none-passed}
+use Rattle.tables.proofs.Records.{SoFar, so-far, so-far-more, so-far-all}
 use Rattle.reading.proofs.colouring.occurs.Statement.{statement}
 use Rattle.reading.proofs.colouring.occurs.Tie as tie
 
 abbrev Inv-loop : tie.InvT-loop
-Inv-loop symbols inside terms t symbol u₀ u = (symbol ≡ getD symbols t 0) × NoneYet (sameSymbolInside symbols inside t) terms u
+Inv-loop symbols inside terms t symbol found₀ u₀ found u = SoFar (sameSymbolInside symbols inside t) terms u found
 
 abbrev μ-loop : tie.MeasureT-loop
-μ-loop symbols inside terms t symbol u₀ u = terms - u
+μ-loop symbols inside terms t symbol found₀ u₀ found u = terms - u
 
 mul-symbol : tie.Need-mul-symbol Inv-loop μ-loop
 mul-symbol c = omega arith
@@ -24,19 +19,16 @@ element-copy-out-symbol : tie.Need-element-copy-out-symbol Inv-loop μ-loop
 element-copy-out-symbol c = omega arith
 
 loop-holds : tie.Need-loop-holds Inv-loop μ-loop
-loop-holds c = (refl, none-yet _ _)
+loop-holds c = so-far _ _
 
-element-copy-out-if1 : tie.Need-element-copy-out-if1 Inv-loop μ-loop
-element-copy-out-if1 c = omega arith
+element-copy-out-found : tie.Need-element-copy-out-found Inv-loop μ-loop
+element-copy-out-found c = omega arith
 
-mul-if2 : tie.Need-mul-if2 Inv-loop μ-loop
-mul-if2 c = omega arith
+mul-found : tie.Need-mul-found Inv-loop μ-loop
+mul-found c = omega arith
 
-element-copy-out-if2 : tie.Need-element-copy-out-if2 Inv-loop μ-loop
-element-copy-out-if2 c = omega arith
-
-returns : tie.Need-returns Inv-loop μ-loop
-returns c = some-passed _ _ _ _ (c .before .before .before .before .loop-test .taken) refl (ap₂ (λ (x y : Bool). x && y) (c .before .before .if1 .taken) (c .if2 .taken))
+element-copy-out-found-2 : tie.Need-element-copy-out-found-2 Inv-loop μ-loop
+element-copy-out-found-2 c = omega arith
 
 add-u : tie.Need-add-u Inv-loop μ-loop
 add-u c = omega arith
@@ -45,10 +37,10 @@ loop-less : tie.Need-loop-less Inv-loop μ-loop
 loop-less c = omega arith
 
 loop-again : tie.Need-loop-again Inv-loop μ-loop
-loop-again c = (refl, none-more _ _ _ _ (c .before .before .before .loop .inv .1) (c .before .before .loop-test .taken) refl (⊎-elim {C = sameSymbolInside (c .before .before .before .before .before .args .symbols .now) (c .before .before .before .before .before .args .inside .now) (c .before .before .before .before .before .args .t) (c .before .before .before .loop .u) ≡ false} (λ w. ap₂ (λ (x y : Bool). x && y) (w .0 .taken) (w .2 .left)) (λ w. ap (λ (x : Bool). x && eqb (getD (c .before .before .before .before .before .args .symbols .now) (c .before .before .before .loop .u) 0) (getD (c .before .before .before .before .before .args .symbols .now) (c .before .before .before .before .before .args .t) 0)) (w .left)) (c .if1 .came)))
+loop-again c = so-far-more _ _ _ _ (c .before .before .before .loop .inv) (c .before .before .loop-test .taken)
 
-returns-2 : tie.Need-returns-2 Inv-loop μ-loop
-returns-2 c = none-passed _ _ _ (c .before .loop .inv .1) (c .loop-test .left)
+returns : tie.Need-returns Inv-loop μ-loop
+returns c = so-far-all _ _ _ _ (c .before .loop .inv) (c .loop-test .left)
 
 pub occurs-spec : {M : Type 1} → statement M
 occurs-spec =
@@ -59,11 +51,10 @@ occurs-spec =
     mul-symbol
     element-copy-out-symbol
     loop-holds
-    element-copy-out-if1
-    mul-if2
-    element-copy-out-if2
-    returns
+    element-copy-out-found
+    mul-found
+    element-copy-out-found-2
     add-u
     loop-less
     loop-again
-    returns-2)
+    returns)
