@@ -20,7 +20,6 @@ use Rattle.closure.specs.Graph.{joined}
 use Rattle.closure.specs.declared.EdgeKind.the-variants.{Derived as derived}
 use Rattle.closure.specs.Steps.{State, tableOf, vertex, congruent, withEdge, derived-step}
 use Rattle.closure.specs.OwnRun.{derivable, middleFrom, derivedStep}
-use Rattle.running.specs.Shown.{Shows}
 use Rattle.running.specs.Stepping.{OnRun, Apart, colouring, Outcome}
 use Rattle.running.specs.declared.step.Colouring.the-variants.{Of, Middle}
 use Rattle.running.specs.declared.state.State.{State as Arrays}
@@ -57,7 +56,7 @@ two-test ts ls table v = go (colourable ts ls A table v) (colourable ts ls B tab
 -- ---- what a colour says of the tests
 
 -- an edge that has one
-pub edge-tests : (m n : ℕ) (X : Side) → colouring m n ≡ Of X → ((leb 2 m && leb 2 n ≡ true) × (X ≡ B)) ⊎ ((leb 2 m && leb 2 n ≡ false) × (eqb (m % 2) 1 && eqb (n % 2) 1 ≡ true) × (X ≡ A))
+edge-tests : (m n : ℕ) (X : Side) → colouring m n ≡ Of X → ((leb 2 m && leb 2 n ≡ true) × (X ≡ B)) ⊎ ((leb 2 m && leb 2 n ≡ false) × (eqb (m % 2) 1 && eqb (n % 2) 1 ≡ true) × (X ≡ A))
 unfolding colouring
 edge-tests m n X e = go (leb 2 m && leb 2 n) (eqb (m % 2) 1 && eqb (n % 2) 1) e
   where
@@ -67,7 +66,7 @@ edge-tests m n X e = go (leb 2 m && leb 2 n) (eqb (m % 2) 1 && eqb (n % 2) 1) e
     go false false h = let z : _≡_ {A = ℕ} 0 1 = cc in absurd (omega arith)
 
 -- an edge that takes a middle term
-pub middle-tests : (m n : ℕ) → colouring m n ≡ Middle → (leb 2 m && leb 2 n ≡ false) × (eqb (m % 2) 1 && eqb (n % 2) 1 ≡ false)
+middle-tests : (m n : ℕ) → colouring m n ≡ Middle → (leb 2 m && leb 2 n ≡ false) × (eqb (m % 2) 1 && eqb (n % 2) 1 ≡ false)
 unfolding colouring
 middle-tests m n e = go (leb 2 m && leb 2 n) (eqb (m % 2) 1 && eqb (n % 2) 1) e
   where
@@ -115,13 +114,9 @@ module _ {a : Arrays} (run : OnRun a) (s t : ℕ) (d : T (derivable (run .ts) (r
   alike : T (congruent table (st .graph) s t)
   alike = parts .3
 
-  -- its numbers are numbers of the arrays
+  -- s is a number of the arrays
   pub left-small : s < 511
   left-small = vertex-small run s left-vertex
-
-  -- t too
-  pub right-small : t < 511
-  right-small = vertex-small run t right-vertex
 
   -- there is room for an edge between them
   edge-room : (X : Side) → T (edgeColourable ts ls X table s t) → a .graph .count < 510
