@@ -1,13 +1,13 @@
 -- The turns of the library's own run as the code takes them: the arrays go on showing the state of a run, and the turns left come to the same end.
 use mathlib.Core.Bool.{true, false, not}
-use mathlib.Core.List.{List, [], _∷_, _++_}
+use mathlib.Core.List.{List, []}
 use mathlib.Core.Logic.{_⊎_, inl, inr, ⊎-elim}
 use mathlib.Core.Option.{Option, some, none}
 use mathlib.Core.Path.{_≡_, refl, sym, ap, subst, _∙_}
-use Prim.Native.Nat.{ℕ, zero, suc, _+_, _-_, _≤_, _<_}
+use Prim.Native.Nat.{ℕ, zero, suc, _-_, _≤_, _<_}
 use native.Mathlib.Omega.{arith}
 use lib.Dec.{T, eqb, eqb→eq}
-use lib.ListN.{length, getD, replicate, List·getD-eq-default}
+use lib.ListN.{length, getD, List·getD-eq-default}
 use Rattle.tables.specs.Words.{Pair, pairsBelow}
 use Rattle.tables.specs.Terms.{Term, termAt}
 use Rattle.tables.specs.TermTable.{termCount, termRecord, symbolField, arityField, otherArity, hadOtherArity, termOf, termsOf}

@@ -1,11 +1,11 @@
 -- What one derived step of the code rests on, and what it comes to.
-use mathlib.Core.Bool.{true, false, not}
+use mathlib.Core.Bool.{true, false, cond, not, _&&_}
 use mathlib.Core.List.{List, [], _∷_, _++_, List·Memᴰ}
 use mathlib.Core.Logic.{_⊎_}
 use mathlib.Core.Option.{Option, some, none}
 use mathlib.Core.Path.{_≡_}
-use Prim.Native.Nat.{ℕ, _≤_, _<_}
-use lib.Dec.{T}
+use Prim.Native.Nat.{ℕ, _%_, _≤_, _<_}
+use lib.Dec.{T, eqb, leb}
 use lib.ListN.{length}
 use Rattle.tables.specs.Terms.{Term, termAt, LowerArguments}
 use Rattle.tables.specs.LiteralTable.{Literal}
@@ -24,6 +24,8 @@ use Rattle.running.specs.declared.state.State.{State as Arrays}
 use Rattle.running.specs.declared.step.Met.{Met}
 use Rattle.running.specs.declared.step.Met.the-variants.{At, Nothing}
 use Rattle.running.specs.declared.step.Choice.{Choice}
+use Rattle.running.specs.declared.step.Colouring.{Colouring}
+use Rattle.running.specs.declared.step.Colouring.the-variants.{Of, Middle}
 use Rattle.running.specs.declared.state.Stepped.{Stepped}
 
 -- ---- the shared terms of the parent paths
@@ -113,6 +115,10 @@ pub record Apart (ts : List Term) (ls : List Literal) (st : State) (s t : ℕ) :
   pub left-not-b : T (not (colourable ts ls B (tableOf ts st) s))
   pub right-b : T (colourable ts ls B (tableOf ts st) t)
   pub right-not-a : T (not (colourable ts ls A (tableOf ts st) t))
+
+-- the colour of an edge by the numbers of its ends' colours: B where both have it, else A; else it takes a middle term
+unfoldable pub colouring : ℕ → ℕ → Colouring
+colouring x y = cond (leb 2 x && leb 2 y) (Of B) (cond (eqb (x % 2) 1 && eqb (y % 2) 1) (Of A) Middle)
 
 -- what comes out is row 8, or the arrays of the state
 abbrev pub Outcome : List Term → List Literal → Option State → Stepped → Type 0

@@ -19,20 +19,22 @@ ghost use Rattle.running.specs.declared.state.State.{State as Arrays};
 pub fn joined_on(
     labels: &mut [u16; 511],
     graph: Graph,
-    left: u16,
-    right: u16,
+    left: usize,
+    right: usize,
     colour: Side,
     kind: EdgeKind,
 ) -> Graph
     requires { ⌜ (length (now labels) ≡ 511) × (left < 511) × (right < 511) × (graph .count < 510) ⌝ }
     ensures { λ r. ⌜ ((ts : List Term) (ls : List Literal) (st : Reached) (s : Arrays) → Shows ts ls st (regraphed s graph (now (labels .entry))) → Shows ts ls (withEdge st left right colour kind) (regraphed s r (now (labels .exit)))) ⌝ }
 {
-    let from = labels[right as usize];
-    let to = labels[left as usize];
+    let from = labels[right];
+    let to = labels[left];
     labels::relabel(labels, from, to);
+    let u = left as u16;
+    let v = right as u16;
     graph.with_edge(Edge {
-        left,
-        right,
+        left: u,
+        right: v,
         colour,
         kind,
     })

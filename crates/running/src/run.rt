@@ -1,12 +1,13 @@
 // "The library's own run".
 
 use super::Row;
-use super::edge;
-use super::search;
+use super::edge::joined_on;
 use super::search::Pair;
+use super::search::first_pair;
 use super::state::State;
 use super::state::Stepped;
 use super::step;
+use super::step::Colouring;
 use closure::EdgeKind;
 use graphs::graph::Graph;
 use graphs::labels;
@@ -73,12 +74,12 @@ fn basic_steps(t: Tables, start: State) -> State
     let mut st = start;
     let mut i = 0;
     while i < count {
-        let left = t.lefts[i];
-        let right = t.rights[i];
-        if (t.kinds[i] == 1) & (st.labels[left as usize] != st.labels[right as usize]) {
+        let left = t.lefts[i] as usize;
+        let right = t.rights[i] as usize;
+        if (t.kinds[i] == 1) & (st.labels[left] != st.labels[right]) {
             let side = side_of(t.sides[i]);
             let graph = st.graph;
-            let grown = edge::joined_on(&mut st.labels, graph, left, right, side, EdgeKind::Basic);
+            let grown = joined_on(&mut st.labels, graph, left, right, side, EdgeKind::Basic);
             st.graph = grown;
         }
         i += 1;
@@ -86,35 +87,36 @@ fn basic_steps(t: Tables, start: State) -> State
     st
 }
 
-// "then, repeatedly, the derived step on the first pair .. until none is left": a run has fewer steps than there are terms.
-fn derived_steps(start: State, given: usize) -> Stepped
-    requires { ⌜ ((run : OnRun start) × (given ≡ length (run .ts))) ⌝ }
-    ensures { λ r. ⌜ ((run : OnRun start) → given ≡ length (run .ts) → Outcome (run .ts) (run .ls) (turnsAt (firstPair (run .ts) (run .ls)) (derivedStep (run .ts) (run .ls)) given (run .reached)) r) ⌝ }
+// "then, repeatedly, the derived step on the first pair .. until none is left": a run has fewer steps than there
+// are given terms, of which there are n.
+fn derived_steps(start: State, n: usize) -> Stepped
+    requires { ⌜ ((run : OnRun start) × (n ≡ length (run .ts))) ⌝ }
+    ensures { λ r. ⌜ ((run : OnRun start) → n ≡ length (run .ts) → Outcome (run .ts) (run .ls) (turnsAt (firstPair (run .ts) (run .ls)) (derivedStep (run .ts) (run .ls)) n (run .reached)) r) ⌝ }
 {
     let mut st = start;
-    let mut turns = given;
+    let mut turns = n;
     while 0 < turns {
         let rows = st.rows;
-        let found = search::first_pair(
-            &st.labels,
-            &st.symbols,
-            &st.vertices,
-            &st.arities,
-            rows,
-            given,
-        );
+        let found = first_pair(&st.labels, &st.symbols, &st.vertices, &st.arities, rows, n);
         let Pair::Of(s, t) = found else {
             return Stepped {
                 stuck: false,
                 state: st,
             };
         };
-        let next = step::derived_step(st, s as u16, t as u16);
-        if next.stuck {
-            return next;
+        let colour = step::edge_colour(st.colours[s], st.colours[t]);
+        if let Colouring::Of(side) = colour {
+            let graph = st.graph;
+            let grown = joined_on(&mut st.labels, graph, s, t, side, EdgeKind::Derived);
+            st.graph = grown;
+        } else {
+            let next = step::by_middle(st, s as u16, t as u16);
+            if next.stuck {
+                return next;
+            }
+            let after = next.state;
+            st = after;
         }
-        let after = next.state;
-        st = after;
         turns -= 1;
     }
     Stepped {

@@ -41,7 +41,14 @@ impl State {
         ensures { λ r. ⌜ ((ts : List Term) (ls : List Literal) (st : Reached) → Shows ts ls st self → Shows ts ls (withEdge st left right colour kind) r) ⌝ }
     {
         let graph = self.graph;
-        let grown = edge::joined_on(&mut self.labels, graph, left, right, colour, kind);
+        let grown = edge::joined_on(
+            &mut self.labels,
+            graph,
+            left as usize,
+            right as usize,
+            colour,
+            kind,
+        );
         self.graph = grown;
         self
     }

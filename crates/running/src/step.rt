@@ -19,7 +19,7 @@ ghost use Rattle.tables.specs.LiteralTable.{Literal};
 ghost use Rattle.closure.specs.Steps.{State as Reached, tableOf, vertexEqual, placed as placedIn, tied as tiedIn};
 ghost use Rattle.closure.specs.OwnRun.{firstShared, middleFrom, derivable, derivedStep};
 ghost use Rattle.running.specs.Shown.{Shows};
-ghost use Rattle.running.specs.Stepping.{metOf, Choosing, ChoiceOf, numberOr, Placing, OnRun, Apart, Outcome};
+ghost use Rattle.running.specs.Stepping.{metOf, Choosing, ChoiceOf, numberOr, Placing, OnRun, Apart, colouring, Outcome};
 
 // A vertex that a search meets.
 pub enum Met {
@@ -178,28 +178,31 @@ fn middle_step(st: State, s: u16, t: u16) -> Stepped
     }
 }
 
-// "A derived edge is B where both ends are B-colourable, else A."
-pub fn derived_step(st: State, s: u16, t: u16) -> Stepped
-    requires { ⌜ ((run : OnRun st) × T (derivable (run .ts) (run .ls) (run .reached) (pair s t))) ⌝ }
-    ensures { λ r. ⌜ ((run : OnRun st) → T (derivable (run .ts) (run .ls) (run .reached) (pair s t)) → Outcome (run .ts) (run .ls) (derivedStep (run .ts) (run .ls) (run .reached) (pair s t)) r) ⌝ }
+// The colour of a derived edge, or that it has none.
+pub enum Colouring {
+    Of(Side),
+    Middle,
+}
+
+// "A derived edge is B where both ends are B-colourable, else A": by the numbers of the ends' colours. Where it would be neither, it takes a middle term.
+pub fn edge_colour(of_s: u8, of_t: u8) -> Colouring
+    ensures { λ r. ⌜ r ≡ colouring «of_s» «of_t» ⌝ }
 {
-    let of_s = st.colours[s as usize];
-    let of_t = st.colours[t as usize];
     if (2 <= of_s) & (2 <= of_t) {
-        let next = st.with_edge(s, t, Side::B, EdgeKind::Derived);
-        return Stepped {
-            stuck: false,
-            state: next,
-        };
+        return Colouring::Of(Side::B);
     }
     if (of_s % 2 == 1) & (of_t % 2 == 1) {
-        let next = st.with_edge(s, t, Side::A, EdgeKind::Derived);
-        return Stepped {
-            stuck: false,
-            state: next,
-        };
+        return Colouring::Of(Side::A);
     }
-    if of_s % 2 == 1 {
+    Colouring::Middle
+}
+
+// The step by a middle term, from the end that is A-colourable.
+pub fn by_middle(st: State, s: u16, t: u16) -> Stepped
+    requires { ⌜ ((run : OnRun st) × T (derivable (run .ts) (run .ls) (run .reached) (pair s t)) × (colouring (getD (st .colours) s 0) (getD (st .colours) t 0) ≡ Colouring.Middle)) ⌝ }
+    ensures { λ r. ⌜ ((run : OnRun st) → T (derivable (run .ts) (run .ls) (run .reached) (pair s t)) → Outcome (run .ts) (run .ls) (derivedStep (run .ts) (run .ls) (run .reached) (pair s t)) r) ⌝ }
+{
+    if st.colours[s as usize] % 2 == 1 {
         return middle_step(st, s, t);
     }
     middle_step(st, t, s)

@@ -19,6 +19,12 @@ element-copy-out-to c = search needs
 relabel-requires : tie.Need-relabel-requires
 relabel-requires c κs = search needs
 
+cast-u : tie.Need-cast-u
+cast-u c = search needs
+
+cast-v : tie.Need-cast-v
+cast-v c = search needs
+
 with-edge-requires : tie.Need-with-edge-requires
 with-edge-requires c κs = search needs
 
@@ -36,5 +42,7 @@ joined-on-spec =
     mul-to
     element-copy-out-to
     relabel-requires
+    cast-u
+    cast-v
     with-edge-requires
     returns)

@@ -28,36 +28,36 @@ mul-left c = omega (arith, literals-fit (c .before .before .args .t1) (c .before
 element-copy-out-left : tie.Need-element-copy-out-left Inv-loop μ-loop
 element-copy-out-left c = omega (arith, literals-fit (c .before .before .args .t1) (c .before .before .pre .0))
 
+-- the sides of a record fit the label array
+small : (c : tie.In-loop Inv-loop μ-loop) → (getD (c .before .before .args .t1 .lefts) (c .before .loop .i) 0 < 256) × (getD (c .before .before .args .t1 .rights) (c .before .loop .i) 0 < 256)
+small c = sides-small (c .before .before .args .t1) (c .before .before .pre .0) (c .before .loop .i) (c .loop-test .taken)
+
+cast-left : tie.Need-cast-left Inv-loop μ-loop
+cast-left c = omega (arith, small (c .before) .0)
+
 mul-right : tie.Need-mul-right Inv-loop μ-loop
 mul-right c = omega (arith, literals-fit (c .before .before .before .args .t1) (c .before .before .before .pre .0))
 
 element-copy-out-right : tie.Need-element-copy-out-right Inv-loop μ-loop
 element-copy-out-right c = omega (arith, literals-fit (c .before .before .before .args .t1) (c .before .before .before .pre .0))
 
+cast-right : tie.Need-cast-right Inv-loop μ-loop
+cast-right c = omega (arith, small (c .before .before) .1)
+
 element-copy-out-if1 : tie.Need-element-copy-out-if1 Inv-loop μ-loop
 element-copy-out-if1 c = omega (arith, literals-fit (c .before .before .before .before .args .t1) (c .before .before .before .before .pre .0))
 
--- the sides of a record fit the label array
-small : (c : tie.After-if12 Inv-loop μ-loop) → (getD (c .before .before .before .before .before .args .t1 .lefts) (c .before .before .before .before .loop .i) 0 < 256) × (getD (c .before .before .before .before .before .args .t1 .rights) (c .before .before .before .before .loop .i) 0 < 256)
-small c = sides-small (c .before .before .before .before .before .args .t1) (c .before .before .before .before .before .pre .0) (c .before .before .before .before .loop .i) (c .before .before .before .loop-test .taken)
-
-cast-if1 : tie.Need-cast-if1 Inv-loop μ-loop
-cast-if1 c = omega (arith, small c .0)
-
 mul-if1 : tie.Need-mul-if1 Inv-loop μ-loop
-mul-if1 c = omega (arith, small c .0)
+mul-if1 c = omega (arith, small (c .before .before .before) .0)
 
 element-copy-out-if1-2 : tie.Need-element-copy-out-if1-2 Inv-loop μ-loop
-element-copy-out-if1-2 c = omega (arith, small c .0)
-
-cast-if1-2 : tie.Need-cast-if1-2 Inv-loop μ-loop
-cast-if1-2 c = omega (arith, small (c .before) .1)
+element-copy-out-if1-2 c = omega (arith, small (c .before .before .before) .0)
 
 mul-if1-2 : tie.Need-mul-if1-2 Inv-loop μ-loop
-mul-if1-2 c = omega (arith, small (c .before) .1)
+mul-if1-2 c = omega (arith, small (c .before .before .before .before) .1)
 
 element-copy-out-if1-3 : tie.Need-element-copy-out-if1-3 Inv-loop μ-loop
-element-copy-out-if1-3 c = omega (arith, small (c .before) .1)
+element-copy-out-if1-3 c = omega (arith, small (c .before .before .before .before) .1)
 
 element-copy-out-side-of : tie.Need-element-copy-out-side-of Inv-loop μ-loop
 element-copy-out-side-of c = omega (arith, literals-fit (c .before .before .before .before .before .before .before .before .args .t1) (c .before .before .before .before .before .before .before .before .pre .0))
@@ -68,11 +68,9 @@ side-of-requires c κs = tt
 joined-on-requires : tie.Need-joined-on-requires Inv-loop μ-loop
 joined-on-requires c κs =
     let from = c .before .before .before .before .before .before .before .before .before .before .before .before .pre .0 in
-    let i = c .before .before .before .before .before .before .before .before .before .before .before .loop .i in
-    let more = c .before .before .before .before .before .before .before .before .before .before .loop-test .taken in
     let shows = c .before .before .before .before .before .before .before .before .before .before .before .loop .inv .1 from (c .before .before .before .before .before .before .before .before .before .before .before .before .pre .1) in
-    let sides = sides-small (c .before .before .before .before .before .before .before .before .before .before .before .before .args .t1) from i more in
-    (shown-length (termsOf (from .terms)) (literalsOf (from .literals)) _ _ shows, omega (arith, sides .0), omega (arith, sides .1), omega (arith, after-edges (c .before .before .before .before .before .before .before .before .before .before .before .before .args .t1) from i (c .before .before .before .before .before .before .before .before .before .before .before .loop .st) shows more))
+    let sides = small (c .before .before .before .before .before .before .before .before .before .before) in
+    (shown-length (termsOf (from .terms)) (literalsOf (from .literals)) _ _ shows, omega (arith, sides .0), omega (arith, sides .1), omega (arith, after-edges (c .before .before .before .before .before .before .before .before .before .before .before .before .args .t1) from (c .before .before .before .before .before .before .before .before .before .before .before .loop .i) (c .before .before .before .before .before .before .before .before .before .before .before .loop .st) shows (c .before .before .before .before .before .before .before .before .before .before .loop-test .taken)))
 
 add-i : tie.Need-add-i Inv-loop μ-loop
 add-i c = omega arith
@@ -106,13 +104,13 @@ basic-steps-spec =
     loop-holds
     mul-left
     element-copy-out-left
+    cast-left
     mul-right
     element-copy-out-right
+    cast-right
     element-copy-out-if1
-    cast-if1
     mul-if1
     element-copy-out-if1-2
-    cast-if1-2
     mul-if1-2
     element-copy-out-if1-3
     element-copy-out-side-of
