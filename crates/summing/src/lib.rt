@@ -1,4 +1,8 @@
 // The clause layer of document 01 as code, its second half: which clauses the summary has, and their records.
 
+mod clause;
+mod last;
+mod reading;
+mod stretches;
 pub mod summary;
 mod writing;

@@ -12,63 +12,48 @@ Inv-loop inb stops edges lo hi first b i₀ i = (b ≡ colourAt inb edges lo) ×
 abbrev μ-loop : tie.MeasureT-loop
 μ-loop inb stops edges lo hi first b i₀ i = hi - i
 
--- src/marks.rt:40:17
 mul-first : tie.Need-mul-first Inv-loop μ-loop
 mul-first c = omega arith
 
--- src/marks.rt:40:17
 element-copy-out-first : tie.Need-element-copy-out-first Inv-loop μ-loop
 element-copy-out-first c = omega arith
 
--- src/marks.rt:40:17
 cast-first : tie.Need-cast-first Inv-loop μ-loop
 cast-first c = omega (arith, c .before .pre .0 .edges-low (c .before .args .lo) (c .before .pre .1))
 
--- src/marks.rt:41:13
 element-copy-out-b : tie.Need-element-copy-out-b Inv-loop μ-loop
 element-copy-out-b c = c .before .pre .0 .edges-low (c .before .args .lo) (c .before .pre .1)
 
--- src/marks.rt:42:17
 add-i : tie.Need-add-i Inv-loop μ-loop
 add-i c = omega arith
 
--- src/marks.rt:43:5
 loop-holds : tie.Need-loop-holds Inv-loop μ-loop
 loop-holds c = (refl, same-first _ _ _ _ (c .before .before .pre .1))
 
--- src/marks.rt:44:17
 mul-e : tie.Need-mul-e Inv-loop μ-loop
 mul-e c = omega arith
 
--- src/marks.rt:44:17
 element-copy-out-e : tie.Need-element-copy-out-e Inv-loop μ-loop
 element-copy-out-e c = omega arith
 
--- src/marks.rt:44:17
 cast-e : tie.Need-cast-e Inv-loop μ-loop
 cast-e c = omega (arith, c .before .before .before .before .before .pre .0 .edges-low (c .before .before .loop .i) (c .before .loop-test .taken))
 
--- src/marks.rt:45:12
 element-copy-out-if1 : tie.Need-element-copy-out-if1 Inv-loop μ-loop
 element-copy-out-if1 c = c .before .before .before .before .before .pre .0 .edges-low (c .before .before .loop .i) (c .before .loop-test .taken)
 
--- src/marks.rt:46:13
 returns : tie.Need-returns Inv-loop μ-loop
 returns c = same-other _ _ _ _ _ (c .before .before .before .before .loop .inv .1) (flags-differ _ _ (c .if1 .taken))
 
--- src/marks.rt:48:9
 add-i-2 : tie.Need-add-i-2 Inv-loop μ-loop
 add-i-2 c = omega arith
 
--- src/marks.rt:43:5
 loop-less : tie.Need-loop-less Inv-loop μ-loop
 loop-less c = omega arith
 
--- src/marks.rt:43:5
 loop-again : tie.Need-loop-again Inv-loop μ-loop
 loop-again c = (refl, same-more _ _ _ _ _ (c .before .before .before .loop-test .taken) (c .before .before .before .before .loop .inv .1) (flags-same _ _ (c .if1 .left)))
 
--- src/marks.rt:35:1
 returns-2 : tie.Need-returns-2 Inv-loop μ-loop
 returns-2 c = same-all _ _ _ _ _ (c .before .loop .inv .1) (c .loop-test .left)
 

@@ -5,8 +5,8 @@ use Prim.Native.Nat.{ℕ}
 use Rattle.summing.specs.Writing.{putRecord}
 use Rattle.summing.proofs.ClausesOut.{last-below, last-above, last-empty}
 use borrow.Author.Needs.{needs}
-use Rattle.summing.proofs.summary.put_last.Statement.{statement}
-use Rattle.summing.proofs.summary.put_last.Tie as tie
+use Rattle.summing.proofs.last.put_last.Statement.{statement}
+use Rattle.summing.proofs.last.put_last.Tie as tie
 
 mul-a : tie.Need-mul-a
 mul-a c = search needs

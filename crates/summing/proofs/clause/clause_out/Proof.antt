@@ -14,8 +14,8 @@ use Rattle.marking.proofs.Owing.{PathRead, joins, path-read, path-rows}
 use Rattle.summing.specs.Written.{Readable}
 use Rattle.summing.proofs.ClausesOut.{none-covered, clause-put}
 use borrow.Author.Needs.{needs}
-use Rattle.summing.proofs.summary.clause_out.Statement.{statement}
-use Rattle.summing.proofs.summary.clause_out.Tie as tie
+use Rattle.summing.proofs.clause.clause_out.Statement.{statement}
+use Rattle.summing.proofs.clause.clause_out.Tie as tie
 
 trail-requires : tie.Need-trail-requires
 trail-requires c κs =

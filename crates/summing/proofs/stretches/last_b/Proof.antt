@@ -2,8 +2,8 @@
 use Prim.Native.Nat.{_-_}
 use native.Mathlib.Omega.{arith}
 use Rattle.summing.proofs.Stretching.{LastTo, last-none, last-more, last-found, last-end}
-use Rattle.summing.proofs.summary.last_b.Statement.{statement}
-use Rattle.summing.proofs.summary.last_b.Tie as tie
+use Rattle.summing.proofs.stretches.last_b.Statement.{statement}
+use Rattle.summing.proofs.stretches.last_b.Tie as tie
 
 abbrev Inv-loop : tie.InvT-loop
 Inv-loop colours stops edges lo hops i₀ i = LastTo colours stops lo hops i

@@ -3,8 +3,8 @@ use mathlib.Core.Logic.{⊎-elim}
 use Prim.Native.Nat.{_-_}
 use native.Mathlib.Omega.{arith}
 use Rattle.summing.proofs.ClausesOut.{put-blank, RowsClauses, rows-clauses-none, rows-clauses-skip, rows-clauses-take, rows-clauses-all, rows-clauses-named}
-use Rattle.summing.proofs.summary.clauses_out.Statement.{statement}
-use Rattle.summing.proofs.summary.clauses_out.Tie as tie
+use Rattle.summing.proofs.clause.clauses_out.Statement.{statement}
+use Rattle.summing.proofs.clause.clauses_out.Tie as tie
 
 abbrev Inv-loop : tie.InvT-loop
 Inv-loop arrays vertices pairs rows found₀ out₀ at n₀ u₀ found out n u =

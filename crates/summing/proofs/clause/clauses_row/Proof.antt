@@ -5,8 +5,8 @@ use native.Mathlib.Omega.{arith}
 use Rattle.tables.specs.Words.{pair}
 use Rattle.tables.proofs.Words.{passes}
 use Rattle.summing.proofs.ClausesOut.{put-blank, RowClauses, row-clauses-none, row-clauses-skip, row-clauses-take, row-clauses-all, row-clauses-named, readable-one}
-use Rattle.summing.proofs.summary.clauses_row.Statement.{statement}
-use Rattle.summing.proofs.summary.clauses_row.Tie as tie
+use Rattle.summing.proofs.clause.clauses_row.Statement.{statement}
+use Rattle.summing.proofs.clause.clauses_row.Tie as tie
 
 abbrev Inv-loop : tie.InvT-loop
 Inv-loop arrays vertices u pairs found₀ out₀ at n₀ v₀ found out n v =

@@ -2,8 +2,8 @@
 use Prim.Native.Nat.{_-_}
 use native.Mathlib.Omega.{arith}
 use Rattle.summing.proofs.Stretching.{FirstTo, first-none, first-more, first-found, first-end}
-use Rattle.summing.proofs.summary.first_b.Statement.{statement}
-use Rattle.summing.proofs.summary.first_b.Tie as tie
+use Rattle.summing.proofs.stretches.first_b.Statement.{statement}
+use Rattle.summing.proofs.stretches.first_b.Tie as tie
 
 abbrev Inv-loop : tie.InvT-loop
 Inv-loop colours stops edges hops i₀ i = FirstTo colours stops hops i

@@ -6,8 +6,8 @@ use lib.ListN.{replicate, length-replicate}
 use Rattle.marking.proofs.Owing.{drawn-kept}
 use Rattle.summing.proofs.ClausesOut.{none-covered, last-put}
 use borrow.Author.Needs.{needs}
-use Rattle.summing.proofs.summary.last_out.Statement.{statement}
-use Rattle.summing.proofs.summary.last_out.Tie as tie
+use Rattle.summing.proofs.last.last_out.Statement.{statement}
+use Rattle.summing.proofs.last.last_out.Tie as tie
 
 want-outer-requires : tie.Need-want-outer-requires
 want-outer-requires c κs =

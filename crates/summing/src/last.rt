@@ -1,0 +1,70 @@
+// The last clause of a disequality in A: the outer premises imply not [middle].
+use super::writing;
+use graphs::paths::Trail;
+use marking::drawing::Drawing;
+use marking::marks;
+use marking::settling;
+ghost use mathlib.Core.Path.{_≡_};
+ghost use Prim.Native.Nat.{_+_, _^_, _≤_, _<_};
+ghost use lib.ListN.{length};
+ghost use Rattle.clauses.specs.Records.{conclusionRecord};
+ghost use Rattle.marking.specs.Marks.{Within, RowsOf};
+ghost use Rattle.marking.specs.Drawn.{DrawnSome};
+ghost use Rattle.summing.specs.Writing.{putRecord};
+ghost use Rattle.summing.specs.Written.{Blank, notAt, LastPut};
+
+// The record of the last clause's conclusion: the ends of the middle stretch differ; or false, where it is empty.
+fn put_last(stops: &[u16; 511], lo: usize, hi: usize, out: &mut [u8], at: usize)
+    requires { ⌜ (lo ≤ hi) × (hi ≤ 510) × (at < 2 ^ 60) ⌝ }
+    ensures { λ _. ⌜ now (out .exit) ≡ putRecord at (conclusionRecord (notAt (now (stops .entry)) lo hi)) (now (out .entry)) ⌝ }
+{
+    if lo < hi {
+        let a = stops[lo];
+        let b = stops[hi];
+        if a < b {
+            writing::put(out, at, 3, a, b);
+        } else {
+            writing::put(out, at, 3, b, a);
+        }
+    } else {
+        writing::put(out, at, 4, 0, 0);
+    }
+}
+
+// The last clause of a disequality in A: the premises of the outer stretches imply that the middle one's ends differ.
+pub fn last_out(
+    d: Drawing,
+    vertices: u16,
+    t: Trail,
+    lo: usize,
+    hi: usize,
+    found: &mut [bool],
+    out: &mut [u8],
+    at: usize,
+) -> usize
+    requires { ⌜ DrawnSome d (length (now found)) ⌝ }
+    requires { ⌜ Within (t .stops) (t .edges) 0 (t .hops) × (lo ≤ hi) × (hi ≤ t .hops) × (vertices ≤ 511) × (at + 261122 < 2 ^ 60) ⌝ }
+    requires { ⌜ RowsOf (length (now found)) (t .stops) (t .hops) × Blank vertices (now found) ⌝ }
+    ensures { λ r. ⌜ LastPut d vertices (t .stops) (t .edges) lo hi (t .hops) at (now (found .entry)) (now (out .entry)) r (now (found .exit)) (now (out .exit)) ⌝ }
+{
+    let inb = d.inb;
+    let stops = t.stops;
+    let mut rows = [false; 511];
+    let mut wanted = [false; 510];
+    let mut unused = [false; 510];
+    marks::want_outer(
+        &inb,
+        t,
+        lo,
+        hi,
+        true,
+        found,
+        &mut rows,
+        &mut wanted,
+        &mut unused,
+    );
+    settling::settle(d, true, found, &mut rows, &mut wanted, &mut unused);
+    let n = writing::premises_out(found, &rows, vertices, out, at);
+    put_last(&stops, lo, hi, out, n);
+    n + 1
+}
