@@ -30,10 +30,10 @@ fn close_up(list: &mut [u16; 511], to: usize, from: usize)
 
 // From u and from v toward the root, whichever is farther, until they meet. What u's side left fills the arrays from the front, what v's side left
 // fills them from the back, which is closed up in the end: so a path costs its hops alone, and the arrays may hold anything before.
-pub fn lay_path(
-    toward: &[u16; 511],
-    by: &[u16; 511],
-    rank: &[u16; 511],
+pub fn lay_path<'a>(
+    toward: &'a [u16; 511],
+    by: &'a [u16; 511],
+    rank: &'a [u16; 511],
     u: u16,
     v: u16,
     stops: &mut [u16; 511],
@@ -67,7 +67,13 @@ pub fn lay_path(
 }
 
 // The same, handed out as a value.
-pub fn path(toward: &[u16; 511], by: &[u16; 511], rank: &[u16; 511], u: u16, v: u16) -> Trail
+pub fn path<'a>(
+    toward: &'a [u16; 511],
+    by: &'a [u16; 511],
+    rank: &'a [u16; 511],
+    u: u16,
+    v: u16,
+) -> Trail
     requires { ⌜ (u < 511) × (v < 511) × ((G : Graph) × Joining (now toward) (now by) (now rank) u v G) ⌝ }
     ensures { λ r. ⌜ ((G : Graph) → Joining (now (toward .entry)) (now (by .entry)) (now (rank .entry)) u v G → TrailOf G u v r) ⌝ }
 {

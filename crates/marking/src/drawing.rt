@@ -25,8 +25,5 @@ pub fn trail(d: Drawing, u: u16, v: u16) -> Trail
     requires { ⌜ (u < 511) × (v < 511) × ((G : Graph) × Joining (d .toward) (d .by) (d .rank) u v G) ⌝ }
     ensures { λ r. ⌜ ((G : Graph) → Joining (d .toward) (d .by) (d .rank) u v G → TrailOf G u v r) ⌝ }
 {
-    let toward = d.toward;
-    let by = d.by;
-    let rank = d.rank;
-    paths::path(&toward, &by, &rank, u, v)
+    paths::path(&d.toward, &d.by, &d.rank, u, v)
 }
