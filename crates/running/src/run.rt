@@ -22,19 +22,25 @@ ghost use Rattle.tables.specs.LiteralTable.{literalsOf};
 ghost use Rattle.tables.specs.Read.{argumentRows};
 ghost use Rattle.closure.specs.Steps.{begin as noSteps};
 ghost use Rattle.closure.specs.OwnRun.{basicSteps, firstPair, derivedStep, turnsAt};
-ghost use Rattle.running.specs.Shown.{Shows};
-ghost use Rattle.running.specs.Opening.{ReadFrom, Opens};
+ghost use Rattle.tables.specs.declared.Tables.{Tables as Read};
+ghost use Rattle.running.specs.Shown.{Shows, regraphed};
+ghost use Rattle.running.specs.Opening.{ReadFrom, Opens, withTerms, withLiterals};
 ghost use Rattle.running.specs.Stepping.{OnRun, Outcome, Ends};
+ghost use Rattle.running.specs.declared.state.State.{State as Arrays};
 
-// The state before the first step: the given terms, and no edge.
-fn begin(t: Tables, given: [[u16; 4]; 256]) -> State
-    requires { ⌜ ReadFrom t ⌝ }
-    ensures { λ r. ⌜ ((from : ReadFrom t) → given ≡ argumentRows (from .terms) → Opens from r) ⌝ }
+// The state before the first step: the given terms, and no edge. The columns of the tables are lent.
+fn begin<'a>(
+    count: usize,
+    symbols: &'a [u16; 256],
+    arities: &'a [u8; 256],
+    used: &'a [bool; 256],
+    colours: &'a [u8; 256],
+    given: &'a [[u16; 4]; 256],
+) -> State
+    requires { ⌜ ((t : Read) × ReadFrom (withTerms t count (now symbols) (now arities) (now used) (now colours))) ⌝ }
+    ensures { λ r. ⌜ ((t : Read) (from : ReadFrom (withTerms t count (now (symbols .entry)) (now (arities .entry)) (now (used .entry)) (now (colours .entry)))) → now (given .entry) ≡ argumentRows (from .terms) → Opens from r) ⌝ }
 {
-    let graph = Graph::empty();
-    let labels = labels::own_labels();
     let none = Row { args: [0u16; 4] };
-    let count = t.terms;
     let mut st = State {
         terms: count,
         symbols: [0u16; 511],
@@ -42,17 +48,17 @@ fn begin(t: Tables, given: [[u16; 4]; 256]) -> State
         rows: [none; 511],
         colours: [0u8; 511],
         vertices: [false; 511],
-        graph,
-        labels,
+        graph: Graph::empty(),
+        labels: labels::own_labels(),
     };
     let mut i = 0;
     while i < count {
-        st.symbols[i] = t.symbols[i];
-        st.arities[i] = t.arities[i];
+        st.symbols[i] = symbols[i];
+        st.arities[i] = arities[i];
         let args = given[i];
         st.rows[i] = Row { args };
-        st.colours[i] = t.colours[i];
-        st.vertices[i] = t.used[i];
+        st.colours[i] = colours[i];
+        st.vertices[i] = used[i];
         i += 1;
     }
     st
@@ -66,25 +72,30 @@ fn side_of(b: u8) -> Side
 }
 
 // "all basic steps by record number, skipping joined sides"
-fn basic_steps(t: Tables, start: State) -> State
-    requires { ⌜ ((from : ReadFrom t) × Opens from start) ⌝ }
-    ensures { λ r. ⌜ ((from : ReadFrom t) → Opens from start → Shows (termsOf (from .terms)) (literalsOf (from .literals)) (basicSteps (literalsOf (from .literals)) noSteps) r) ⌝ }
+fn basic_steps<'a>(
+    labels: &mut [u16; 511],
+    graph: Graph,
+    count: usize,
+    sides: &'a [u8; 1024],
+    kinds: &'a [u8; 1024],
+    lefts: &'a [u16; 1024],
+    rights: &'a [u16; 1024],
+) -> Graph
+    requires { ⌜ ((t : Read) × (from : ReadFrom (withLiterals t count (now sides) (now kinds) (now lefts) (now rights))) × (s : Arrays) × Opens from (regraphed s graph (now labels))) ⌝ }
+    ensures { λ r. ⌜ ((t : Read) (from : ReadFrom (withLiterals t count (now (sides .entry)) (now (kinds .entry)) (now (lefts .entry)) (now (rights .entry)))) (s : Arrays) → Opens from (regraphed s graph (now (labels .entry))) → Shows (termsOf (from .terms)) (literalsOf (from .literals)) (basicSteps (literalsOf (from .literals)) noSteps) (regraphed s r (now (labels .exit)))) ⌝ }
 {
-    let count = t.literals;
-    let mut st = start;
+    let mut grown = graph;
     let mut i = 0;
     while i < count {
-        let left = t.lefts[i] as usize;
-        let right = t.rights[i] as usize;
-        if (t.kinds[i] == 1) & (st.labels[left] != st.labels[right]) {
-            let side = side_of(t.sides[i]);
-            let graph = st.graph;
-            let grown = joined_on(&mut st.labels, graph, left, right, side, EdgeKind::Basic);
-            st.graph = grown;
+        let left = lefts[i] as usize;
+        let right = rights[i] as usize;
+        if (kinds[i] == 1) & (labels[left] != labels[right]) {
+            let side = side_of(sides[i]);
+            grown = joined_on(labels, grown, left, right, side, EdgeKind::Basic);
         }
         i += 1;
     }
-    st
+    grown
 }
 
 // "then, repeatedly, the derived step on the first pair .. until none is left": a run has fewer steps than there
@@ -130,8 +141,19 @@ pub fn own_run(t: Tables, given: [[u16; 4]; 256]) -> Stepped
     requires { ⌜ ((from : ReadFrom t) × (given ≡ argumentRows (from .terms))) ⌝ }
     ensures { λ r. ⌜ ((from : ReadFrom t) → given ≡ argumentRows (from .terms) → Ends (termsOf (from .terms)) (literalsOf (from .literals)) r) ⌝ }
 {
-    let start = begin(t, given);
-    let first = basic_steps(t, start);
-    let count = t.terms;
-    derived_steps(first, count)
+    let terms = t.terms;
+    let literals = t.literals;
+    let mut st = begin(terms, &t.symbols, &t.arities, &t.used, &t.colours, &given);
+    let graph = st.graph;
+    let basic = basic_steps(
+        &mut st.labels,
+        graph,
+        literals,
+        &t.sides,
+        &t.kinds,
+        &t.lefts,
+        &t.rights,
+    );
+    st.graph = basic;
+    derived_steps(st, terms)
 }

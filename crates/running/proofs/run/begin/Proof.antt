@@ -10,10 +10,10 @@ use Rattle.running.proofs.run.begin.Statement.{statement}
 use Rattle.running.proofs.run.begin.Tie as tie
 
 abbrev Inv-loop : tie.InvT-loop
-Inv-loop t given count st₀ i₀ st i = Copied t given count i st
+Inv-loop count symbols arities used colours given st₀ i₀ st i = Copied symbols arities colours used given count i st
 
 abbrev μ-loop : tie.MeasureT-loop
-μ-loop t given count st₀ i₀ st i = count - i
+μ-loop count symbols arities used colours given st₀ i₀ st i = count - i
 
 empty-requires : tie.Need-empty-requires Inv-loop μ-loop
 empty-requires c κs = tt
@@ -23,9 +23,9 @@ own-labels-requires c κs = tt
 
 loop-holds : tie.Need-loop-holds Inv-loop μ-loop
 loop-holds c =
-    let n = c .before .before .args .t1 .terms in
+    let n = c .before .before .args .count in
     record {
-      fits = terms-fit (c .before .before .args .t1) (c .before .before .pre);
+      fits = terms-fit _ (c .before .before .pre .1);
       terms = refl;
       symbols = filling-none 511 0 _ n;
       arities = filling-none 511 0 _ n;
@@ -58,11 +58,11 @@ element-write-st-2 c = omega arith
 mul-args : tie.Need-mul-args Inv-loop μ-loop
 mul-args c = omega arith
 
-array-copy-out-args : tie.Need-array-copy-out-args Inv-loop μ-loop
-array-copy-out-args c = omega arith
+element-copy-out-args : tie.Need-element-copy-out-args Inv-loop μ-loop
+element-copy-out-args c = omega arith
 
-mul-t23 : tie.Need-mul-t23 Inv-loop μ-loop
-mul-t23 c = omega arith
+mul-t24 : tie.Need-mul-t24 Inv-loop μ-loop
+mul-t24 c = omega arith
 
 element-set-from-st : tie.Need-element-set-from-st Inv-loop μ-loop
 element-set-from-st c = omega arith
@@ -103,7 +103,7 @@ loop-again c =
     }
 
 returns : tie.Need-returns Inv-loop μ-loop
-returns c from e = opens _ from _ _ _ _ refl (c .loop-test .left) (c .before .loop .inv) e
+returns c t from e = opens _ from _ _ _ _ refl (c .loop-test .left) (c .before .loop .inv) e
 
 pub begin-spec : {M : Type 1} → statement M
 begin-spec =
@@ -121,8 +121,8 @@ begin-spec =
     element-copy-out-st-2
     element-write-st-2
     mul-args
-    array-copy-out-args
-    mul-t23
+    element-copy-out-args
+    mul-t24
     element-set-from-st
     element-copy-out-st-3
     element-write-st-3
