@@ -1,9 +1,9 @@
 -- `clause_out` meets its contract: the premises of the path between u and v are marked, written and cleared; then the pair is written.
 use mathlib.Core.Bool.{false}
+use mathlib.Core.List.{List}
 use mathlib.Core.Path.{_≡_, refl}
 use native.Mathlib.Omega.{arith}
 use lib.ListN.{replicate, length-replicate}
-use mathlib.Core.List.{List}
 use Rattle.tables.specs.Words.{pair}
 use Rattle.tables.specs.Terms.{Term}
 use Rattle.tables.specs.LiteralTable.{Literal}
