@@ -1,9 +1,4 @@
 // The last graph and its terms as the clause layer is handed them.
-use graphs::paths;
-use graphs::paths::Trail;
-ghost use Prim.Native.Nat.{_<_};
-ghost use Rattle.closure.specs.Graph.{Graph};
-ghost use Rattle.graphs.specs.Trails.{Joining, TrailOf};
 
 // For each vertex its arguments, four places for each, its arity, and the way to its root; for each edge its ends, whether its colour is B, and
 // whether it is derived.
@@ -18,12 +13,4 @@ pub struct Drawing {
     pub inb: [bool; 510],
     pub derived: [bool; 510],
     pub count: usize,
-}
-
-// The path between two joined vertices.
-pub fn trail(d: Drawing, u: u16, v: u16) -> Trail
-    requires { ⌜ (u < 511) × (v < 511) × ((G : Graph) × Joining (d .toward) (d .by) (d .rank) u v G) ⌝ }
-    ensures { λ r. ⌜ ((G : Graph) → Joining (d .toward) (d .by) (d .rank) u v G → TrailOf G u v r) ⌝ }
-{
-    paths::path(&d.toward, &d.by, &d.rank, u, v)
 }

@@ -1,6 +1,6 @@
 // Clauses as records: the premises of each, and then its conclusion, in ascending order.
 use super::writing;
-use marking::drawing;
+use graphs::paths;
 use marking::drawing::Drawing;
 use marking::marks;
 use marking::settling;
@@ -29,7 +29,7 @@ fn clause_out(
     ensures { λ r. ⌜ ClausesPut d vertices (λ p. p ≡ pair u v) (pair u v ∷ []) 1 at (now (found .entry)) (now (out .entry)) r (now (found .exit)) (now (out .exit)) ⌝ }
 {
     let inb = d.inb;
-    let t = drawing::trail(d, u, v);
+    let t = paths::path(&d.toward, &d.by, &d.rank, u, v);
     let hops = t.hops;
     let mut rows = [false; 511];
     let mut wanted = [false; 510];

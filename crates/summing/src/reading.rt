@@ -3,8 +3,8 @@
 use super::clause;
 use super::last;
 use super::stretches;
+use graphs::paths;
 use graphs::paths::Trail;
-use marking::drawing;
 use marking::drawing::Drawing;
 use marking::marks;
 use marking::settling;
@@ -57,7 +57,7 @@ pub fn write_b(
     requires { ⌜ Blank vertices (now pairs) × Blank vertices (now found) ⌝ }
     ensures { λ r. ⌜ Summarised d vertices (now (colours .entry)) s t (sideOf false) (now (out .entry)) r (now (out .exit)) ⌝ }
 {
-    let p = drawing::trail(d, s, t);
+    let p = paths::path(&d.toward, &d.by, &d.rank, s, t);
     let hops = p.hops;
     let mut rows = [false; 511];
     conclude(d, p, 0, hops, pairs, &mut rows);
@@ -84,7 +84,7 @@ pub fn write_a(
     requires { ⌜ Blank vertices (now pairs) × Blank vertices (now found) ⌝ }
     ensures { λ r. ⌜ Summarised d vertices (now (colours .entry)) s t (sideOf true) (now (out .entry)) r (now (out .exit)) ⌝ }
 {
-    let p = drawing::trail(d, s, t);
+    let p = paths::path(&d.toward, &d.by, &d.rank, s, t);
     let stops = p.stops;
     let edges = p.edges;
     let hops = p.hops;

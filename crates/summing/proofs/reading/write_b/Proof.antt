@@ -9,14 +9,14 @@ use borrow.Author.Needs.{needs}
 use Rattle.summing.proofs.reading.write_b.Statement.{statement}
 use Rattle.summing.proofs.reading.write_b.Tie as tie
 
-trail-requires : tie.Need-trail-requires
-trail-requires c κs = sides-asked _ _ _ _ _ (c .before .before .before .pre .0 .1) (c .before .before .before .pre .0 .0)
+path-requires : tie.Need-path-requires
+path-requires c κs = sides-asked _ _ _ _ _ (c .before .before .before .before .before .before .before .pre .0 .1) (c .before .before .before .before .before .before .before .pre .0 .0)
 
 conclude-requires : tie.Need-conclude-requires
 conclude-requires c κs =
-    let p = c .before .before .before .before .before .before .pre in
+    let p = c .before .before .before .before .before .before .before .before .before .before .pre in
     let a = p .0 .0 in
-    let t = c .before .before .trail in
+    let t = c .before .before .path in
     (asked-drawn _ _ _ _ _ (p .0 .1) _ (p .1 .0 .rows) a, ((sides-read _ _ _ _ _ (p .0 .1) (t .result) (t .ensures) _ _ _ _ (a .4) .within, omega arith, omega arith), (sides-rows _ _ _ _ _ (p .0 .1) (t .result) (t .ensures) _ (p .1 .0 .rows) a, p .1 .0 .clear, length-replicate 511 false)))
 
 slice-aggregate-clauses-out : tie.Need-slice-aggregate-clauses-out
@@ -24,9 +24,9 @@ slice-aggregate-clauses-out c = search needs
 
 clauses-out-requires : tie.Need-clauses-out-requires
 clauses-out-requires c κs =
-    let p = c .before .before .before .before .before .before .before .before .before .before .before .before .before .pre in
+    let p = c .before .before .before .before .before .before .before .before .before .before .before .before .before .before .before .before .before .pre in
     let a = p .0 .0 in
-    let t = c .before .before .before .before .before .before .before .before .before .trail in
+    let t = c .before .before .before .before .before .before .before .before .before .path in
     let k = c .before .before .before .before .before .before .conclude .ensures in
     ((a .0, a .1, a .2, a .3, readable-B _ _ _ _ _ (p .0 .1) (t .result) (t .ensures) _ _ (k .1) _ _ _ _ (a .4)), ((p .0 .1, omega (arith, k .0, p .1 .0 .rows), omega arith, k .1 .cover), p .1 .1))
 
@@ -38,15 +38,15 @@ same-length-2 c = search needs
 
 returns : tie.Need-returns
 returns c =
-    let small = c .before .before .before .before .before .before .before .before .before .before .before .before .before .before .before .before .before .before .pre .0 .1 in
-    let t = c .before .before .before .before .before .before .before .before .before .before .before .before .before .before .trail in
+    let small = c .before .before .before .before .before .before .before .before .before .before .before .before .before .before .before .before .before .before .before .before .before .before .pre .0 .1 in
+    let t = c .before .before .before .before .before .before .before .before .before .before .before .before .before .before .path in
     summary-counted _ _ _ _ _ small B _ _ _ _ (put-B _ _ _ _ _ small (t .result) (t .ensures) _ _ (c .before .before .before .before .before .before .before .before .before .before .before .conclude .ensures .1) _ _ _ _ _ (c .before .before .before .before .clauses-out .ensures)) (c .if1 .taken)
 
 clauses-out-requires-2 : tie.Need-clauses-out-requires-2
 clauses-out-requires-2 c κs =
-    let p = c .before .before .before .before .before .before .before .before .before .before .before .before .before .before .before .before .before .before .before .before .before .before .pre in
+    let p = c .before .before .before .before .before .before .before .before .before .before .before .before .before .before .before .before .before .before .before .before .before .before .before .before .before .before .pre in
     let a = p .0 .0 in
-    let t = c .before .before .before .before .before .before .before .before .before .before .before .before .before .before .before .before .before .before .trail in
+    let t = c .before .before .before .before .before .before .before .before .before .before .before .before .before .before .before .before .before .before .path in
     let k = c .before .before .before .before .before .before .before .before .before .before .before .before .before .before .before .conclude .ensures in
     ((a .0, a .1, a .2, a .3, readable-B _ _ _ _ _ (p .0 .1) (t .result) (t .ensures) _ _ (k .1) _ _ _ _ (a .4)), ((p .0 .1, omega (arith, k .0, p .1 .0 .rows), omega arith, k .1 .cover), put-blank _ _ (c .before .before .before .before .before .before .before .before .clauses-out .ensures) (p .1 .1 .rows)))
 
@@ -61,8 +61,8 @@ same-length-5 c = search needs
 
 returns-2 : tie.Need-returns-2
 returns-2 c =
-    let small = c .before .before .before .before .before .before .before .before .before .before .before .before .before .before .before .before .before .before .before .before .before .before .before .before .before .before .before .pre .0 .1 in
-    let t = c .before .before .before .before .before .before .before .before .before .before .before .before .before .before .before .before .before .before .before .before .before .before .before .trail in
+    let small = c .before .before .before .before .before .before .before .before .before .before .before .before .before .before .before .before .before .before .before .before .before .before .before .before .before .before .before .before .before .before .before .pre .0 .1 in
+    let t = c .before .before .before .before .before .before .before .before .before .before .before .before .before .before .before .before .before .before .before .before .before .before .before .path in
     let k = c .before .before .before .before .before .before .before .before .before .before .before .before .before .before .before .before .before .before .before .before .conclude .ensures .1 in
     summary-written _ _ _ _ _ small B _ _ _ _ _ _ (put-B _ _ _ _ _ small (t .result) (t .ensures) _ _ k _ _ _ _ _ (c .before .before .before .before .before .before .before .before .before .before .before .before .before .clauses-out .ensures)) (c .before .before .before .before .before .before .before .before .before .if1 .left)
     (put-B _ _ _ _ _ small (t .result) (t .ensures) _ _ k _ _ _ _ _ (c .before .before .before .before .clauses-out2 .ensures))
@@ -71,7 +71,7 @@ pub write-b-spec : {M : Type 1} → statement M
 write-b-spec =
     tie.close
     (tie.spec
-    trail-requires
+    path-requires
     conclude-requires
     slice-aggregate-clauses-out
     clauses-out-requires
