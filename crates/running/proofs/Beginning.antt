@@ -72,15 +72,15 @@ read-sound t from =
 
 -- ---- the arrays once they are filled
 
--- the first i places are copied from the columns; the rest of the state is set
-pub record Copied (symbols′ arities′ colours′ : List ℕ) (used : List Bool) (given : List (List ℕ)) (n i : ℕ) (st : Arrays) : Type 0 where
+-- the first i places are copied from the tables; the rest of the state is set
+pub record Copied (t : Tables) (given : List (List ℕ)) (n i : ℕ) (st : Arrays) : Type 0 where
   pub fits : n ≤ 256
   pub terms : st .terms ≡ n
-  pub symbols : Filling 511 0 (λ k. getD symbols′ k 0) n i (st .symbols)
-  pub arities : Filling 511 0 (λ k. getD arities′ k 0) n i (st .arities)
+  pub symbols : Filling 511 0 (λ k. getD (t .symbols) k 0) n i (st .symbols)
+  pub arities : Filling 511 0 (λ k. getD (t .arities) k 0) n i (st .arities)
   pub rows : Filling 511 (record { args = 0 ∷ 0 ∷ 0 ∷ 0 ∷ [] }) (λ k. record { args = getD given k [] }) n i (st .rows)
-  pub colours : Filling 511 0 (λ k. getD colours′ k 0) n i (st .colours)
-  pub vertices : Filling 511 false (λ k. getD used k false) n i (st .vertices)
+  pub colours : Filling 511 0 (λ k. getD (t .colours) k 0) n i (st .colours)
+  pub vertices : Filling 511 false (λ k. getD (t .used) k false) n i (st .vertices)
   pub edges : edgesOf (st .graph) ≡ []
   pub count : st .graph .count ≡ 0
   pub labels : st .labels ≡ labelsOf []
@@ -119,7 +119,7 @@ module _ (t : Tables) (from : ReadFrom t) where
       ap (λ (zs : List X). getD zs k d) are ∙ filled-at g 256 filler (termCount bs) k d w (sound-tables .terms-fit) ∙ same k w) ∙
       ap (λ (m : ℕ). filled 511 filler m h) (n-is ∙ terms-are ∙ sym length-table)
 
-  pub opens : (given : List (List ℕ)) (n i : ℕ) (st : Arrays) → n ≡ t .terms → n ≤ i → Copied (t .symbols) (t .arities) (t .colours) (t .used) given n i st → given ≡ argumentRows bs → Opens from st
+  pub opens : (given : List (List ℕ)) (n i : ℕ) (st : Arrays) → n ≡ t .terms → n ≤ i → Copied t given n i st → given ≡ argumentRows bs → Opens from st
   unfolding soundTables argumentRows padded vertex termOf
   opens given n i st n-is done c rows-are =
       let ts = termsOf bs in

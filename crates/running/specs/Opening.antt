@@ -1,5 +1,4 @@
 -- What the run starts from: tables that no row of the checks refuses, and the state before the first step.
-use mathlib.Core.Bool.{Bool}
 use mathlib.Core.List.{List}
 use mathlib.Core.Path.{_≡_}
 use Prim.Native.Nat.{ℕ}
@@ -23,11 +22,6 @@ pub record ReadFrom (t : Tables) : Type 0 where
 -- the arrays show the state before the first step
 abbrev pub Opens : {t : Tables} → ReadFrom t → Arrays → Type 0
 Opens from s = Shows (termsOf (from .terms)) (literalsOf (from .literals)) begin s
-
--- the tables read, with the columns of the terms that are lent
-abbrev pub withTerms : Tables → ℕ → List ℕ → List ℕ → List Bool → List ℕ → Tables
-withTerms t terms symbols arities used colours =
-    record { check = t .check; terms = terms; literals = t .literals; symbols = symbols; arities = arities; used = used; colours = colours; sides = t .sides; kinds = t .kinds; lefts = t .lefts; rights = t .rights }
 
 -- the tables read, with the columns of the literals that are lent
 abbrev pub withLiterals : Tables → ℕ → List ℕ → List ℕ → List ℕ → List ℕ → Tables

@@ -24,45 +24,9 @@ ghost use Rattle.closure.specs.Steps.{begin as noSteps};
 ghost use Rattle.closure.specs.OwnRun.{basicSteps, firstPair, derivedStep, turnsAt};
 ghost use Rattle.tables.specs.declared.Tables.{Tables as Read};
 ghost use Rattle.running.specs.Shown.{Shows, regraphed};
-ghost use Rattle.running.specs.Opening.{ReadFrom, Opens, withTerms, withLiterals};
+ghost use Rattle.running.specs.Opening.{ReadFrom, Opens, withLiterals};
 ghost use Rattle.running.specs.Stepping.{OnRun, Outcome, Ends};
 ghost use Rattle.running.specs.declared.state.State.{State as Arrays};
-
-// The state before the first step: the given terms, and no edge. The columns of the tables are lent.
-fn begin<'a>(
-    count: usize,
-    symbols: &'a [u16; 256],
-    arities: &'a [u8; 256],
-    used: &'a [bool; 256],
-    colours: &'a [u8; 256],
-    given: &'a [[u16; 4]; 256],
-) -> State
-    requires { ⌜ ((t : Read) × ReadFrom (withTerms t count (now symbols) (now arities) (now used) (now colours))) ⌝ }
-    ensures { λ r. ⌜ ((t : Read) (from : ReadFrom (withTerms t count (now (symbols .entry)) (now (arities .entry)) (now (used .entry)) (now (colours .entry)))) → now (given .entry) ≡ argumentRows (from .terms) → Opens from r) ⌝ }
-{
-    let none = Row { args: [0u16; 4] };
-    let mut st = State {
-        terms: count,
-        symbols: [0u16; 511],
-        arities: [0u8; 511],
-        rows: [none; 511],
-        colours: [0u8; 511],
-        vertices: [false; 511],
-        graph: Graph::empty(),
-        labels: labels::own_labels(),
-    };
-    let mut i = 0;
-    while i < count {
-        st.symbols[i] = symbols[i];
-        st.arities[i] = arities[i];
-        let args = given[i];
-        st.rows[i] = Row { args };
-        st.colours[i] = colours[i];
-        st.vertices[i] = used[i];
-        i += 1;
-    }
-    st
-}
 
 // A record's side byte: 1 = A, 2 = B.
 fn side_of(b: u8) -> Side
@@ -136,19 +100,39 @@ fn derived_steps(start: State, n: usize) -> Stepped
     }
 }
 
-// The run from its first step to its last.
+// The run from its first step, in the state of the given terms and no edge, to its last. That state is laid out here and not by a function of its own,
+// since it would be copied on its way back.
 pub fn own_run(t: Tables, given: [[u16; 4]; 256]) -> Stepped
     requires { ⌜ ((from : ReadFrom t) × (given ≡ argumentRows (from .terms))) ⌝ }
     ensures { λ r. ⌜ ((from : ReadFrom t) → given ≡ argumentRows (from .terms) → Ends (termsOf (from .terms)) (literalsOf (from .literals)) r) ⌝ }
 {
     let terms = t.terms;
-    let literals = t.literals;
-    let mut st = begin(terms, &t.symbols, &t.arities, &t.used, &t.colours, &given);
+    let none = Row { args: [0u16; 4] };
+    let mut st = State {
+        terms,
+        symbols: [0u16; 511],
+        arities: [0u8; 511],
+        rows: [none; 511],
+        colours: [0u8; 511],
+        vertices: [false; 511],
+        graph: Graph::empty(),
+        labels: labels::own_labels(),
+    };
+    let mut i = 0;
+    while i < terms {
+        st.symbols[i] = t.symbols[i];
+        st.arities[i] = t.arities[i];
+        let args = given[i];
+        st.rows[i] = Row { args };
+        st.colours[i] = t.colours[i];
+        st.vertices[i] = t.used[i];
+        i += 1;
+    }
     let graph = st.graph;
     let basic = basic_steps(
         &mut st.labels,
         graph,
-        literals,
+        t.literals,
         &t.sides,
         &t.kinds,
         &t.lefts,
