@@ -2,7 +2,7 @@
 
 mod clause;
 mod last;
-mod reading;
+mod readings;
 mod stretches;
 pub mod summary;
 mod writing;

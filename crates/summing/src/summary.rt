@@ -1,5 +1,5 @@
 // The summary of a disequality: all its clauses as records.
-use super::reading;
+use super::readings;
 use marking::drawing::Drawing;
 ghost use Prim.Native.Nat.{_≤_};
 ghost use Rattle.summing.specs.Written.{Blank, AskingSome, sideOf, Summarised};
@@ -21,9 +21,9 @@ fn write_side(
     ensures { λ r. ⌜ Summarised d vertices (now (colours .entry)) s t (sideOf ina) (now (out .entry)) r (now (out .exit)) ⌝ }
 {
     if ina {
-        reading::write_a(d, vertices, colours, s, t, pairs, found, out)
+        readings::write_a(d, vertices, colours, s, t, pairs, found, out)
     } else {
-        reading::write_b(d, vertices, colours, s, t, pairs, found, out)
+        readings::write_b(d, vertices, colours, s, t, pairs, found, out)
     }
 }
 

@@ -7,8 +7,8 @@ use Rattle.marking.proofs.Trails.{within-part, rows-part}
 use Rattle.marking.proofs.Owing.{drawn-kept}
 use Rattle.summing.proofs.ClausesOut.{concluded}
 use borrow.Author.Needs.{needs}
-use Rattle.summing.proofs.reading.conclude.Statement.{statement}
-use Rattle.summing.proofs.reading.conclude.Tie as tie
+use Rattle.summing.proofs.readings.conclude.Statement.{statement}
+use Rattle.summing.proofs.readings.conclude.Tie as tie
 
 want-requires : tie.Need-want-requires
 want-requires c κs =

@@ -7,8 +7,8 @@ use Rattle.tables.specs.declared.Side.the-variants.{A}
 use Rattle.summing.proofs.ClausesOut.{put-blank}
 use Rattle.summing.proofs.Summing.{sides-asked, asked-drawn, sides-read, sides-rows, readable-A, put-A, clear-A, summary-counted, summary-written}
 use borrow.Author.Needs.{needs}
-use Rattle.summing.proofs.reading.write_a.Statement.{statement}
-use Rattle.summing.proofs.reading.write_a.Tie as tie
+use Rattle.summing.proofs.readings.write_a.Statement.{statement}
+use Rattle.summing.proofs.readings.write_a.Tie as tie
 
 path-requires : tie.Need-path-requires
 path-requires c κs = sides-asked _ _ _ _ _ (c .before .before .before .before .before .before .before .pre .0 .1) (c .before .before .before .before .before .before .before .pre .0 .0)
