@@ -109,10 +109,10 @@ fn want_edges(
 
 // What reading a stretch asks for: the ends of its factors of colour b, unless they do not count; the parent paths of its other edges; and, where
 // clauses are read, b being A, those of its A-edges too.
-pub fn want_along(
+pub fn want_along<'a>(
     inb: &[bool; 510],
-    stops: &[u16; 511],
-    edges: &[u16; 511],
+    stops: &'a [u16; 511],
+    edges: &'a [u16; 511],
     lo: usize,
     hi: usize,
     b: bool,
@@ -135,40 +135,6 @@ pub fn want_along(
     }
 }
 
-// The same of a stretch of a trail.
-pub fn want(
-    inb: &[bool; 510],
-    t: Trail,
-    lo: usize,
-    hi: usize,
-    b: bool,
-    whole: bool,
-    pairs: &mut [bool],
-    rows: &mut [bool; 511],
-    inside: &mut [bool; 510],
-    under: &mut [bool; 510],
-)
-    requires { ⌜ Within (t .stops) (t .edges) lo hi ⌝ }
-    requires { ⌜ RowsOf (length (now pairs)) (t .stops) hi × InOrder (now rows) (now inside) (now under) ⌝ }
-    ensures { λ _. ⌜ Wanted (now (inb .entry)) (t .stops) (t .edges) lo hi b whole (now (pairs .entry)) (now (rows .entry)) (now (inside .entry)) (now (under .entry)) (now (pairs .exit)) (now (rows .exit)) (now (inside .exit)) (now (under .exit)) ⌝ }
-{
-    let stops = t.stops;
-    let edges = t.edges;
-    want_along(
-        inb,
-        &stops,
-        &edges,
-        lo,
-        hi,
-        b,
-        whole,
-        pairs,
-        rows,
-        inside,
-        under,
-    );
-}
-
 // The stretches before and after the middle one of a path, their own factors where those of B are read.
 pub fn want_outer(
     inb: &[bool; 510],
@@ -186,6 +152,30 @@ pub fn want_outer(
     ensures { λ _. ⌜ OuterWanted (now (inb .entry)) (t .stops) (t .edges) lo hi (t .hops) b (now (pairs .entry)) (now (rows .entry)) (now (inside .entry)) (now (under .entry)) (now (pairs .exit)) (now (rows .exit)) (now (inside .exit)) (now (under .exit)) ⌝ }
 {
     let hops = t.hops;
-    want(inb, t, 0, lo, b, b, pairs, rows, inside, under);
-    want(inb, t, hi, hops, b, b, pairs, rows, inside, under);
+    want_along(
+        inb,
+        &t.stops,
+        &t.edges,
+        0,
+        lo,
+        b,
+        b,
+        pairs,
+        rows,
+        inside,
+        under,
+    );
+    want_along(
+        inb,
+        &t.stops,
+        &t.edges,
+        hi,
+        hops,
+        b,
+        b,
+        pairs,
+        rows,
+        inside,
+        under,
+    );
 }

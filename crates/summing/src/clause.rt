@@ -34,9 +34,10 @@ fn clause_out(
     let mut rows = [false; 511];
     let mut wanted = [false; 510];
     let mut unused = [false; 510];
-    marks::want(
+    marks::want_along(
         &inb,
-        t,
+        &t.stops,
+        &t.edges,
         0,
         hops,
         true,

@@ -26,9 +26,10 @@ fn conclude(d: Drawing, t: Trail, lo: usize, hi: usize, pairs: &mut [bool], rows
     let inb = d.inb;
     let mut inside = [false; 510];
     let mut under = [false; 510];
-    marks::want(
+    marks::want_along(
         &inb,
-        t,
+        &t.stops,
+        &t.edges,
         lo,
         hi,
         false,
