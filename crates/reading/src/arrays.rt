@@ -24,8 +24,8 @@ pub fn sound(terms: &[u8], literals: &[u8]) -> Tables
     let kinds = literal_table::literal_bytes(literals, 1);
     let lefts = literal_table::literal_words(literals, 2);
     let rights = literal_table::literal_words(literals, 4);
-    let a = colouring::inside(&rows, &arities, &sides, &lefts, &rights, records, 1);
-    let b = colouring::inside(&rows, &arities, &sides, &lefts, &rights, records, 2);
+    let a = colouring::inside(&rows, &arities, literals, 1);
+    let b = colouring::inside(&rows, &arities, literals, 2);
     let used = colouring::in_use(&a, &b, count);
     let in_a = colouring::occurring(&symbols, &a, count);
     let in_b = colouring::occurring(&symbols, &b, count);
