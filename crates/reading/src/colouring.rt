@@ -30,12 +30,7 @@ fn mark(rows: &[[u16; 4]; 256], arities: &[u8; 256], marks: &mut [bool; 256], t:
 }
 
 // Which terms stand in the literals of a side: the sides of these literals and, all the way down, their arguments.
-pub fn inside(
-    rows: &[[u16; 4]; 256],
-    arities: &[u8; 256],
-    literals: &[u8],
-    side: u8,
-) -> [bool; 256]
+pub fn inside(rows: &[[u16; 4]; 256], arities: &[u8; 256], literals: &[u8], side: u8) -> [bool; 256]
     requires { ⌜ LowerRows (now rows) (now arities) ⌝ }
     requires { ⌜ LiteralsWithin (now literals) ⌝ }
     ensures { λ r. ⌜ Inside (now (rows .entry)) (now (arities .entry)) (now (literals .entry)) side (literalCount (now (literals .entry))) r ⌝ }

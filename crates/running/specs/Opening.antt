@@ -27,9 +27,4 @@ Opens from s = Shows (termsOf (from .terms)) (literalsOf (from .literals)) begin
 -- the tables read, with the columns of the terms that are lent
 abbrev pub withTerms : Tables → ℕ → List ℕ → List ℕ → List Bool → List ℕ → Tables
 withTerms t terms symbols arities used colours =
-    record { check = t .check; terms = terms; literals = t .literals; symbols = symbols; arities = arities; used = used; colours = colours; sides = t .sides; kinds = t .kinds; lefts = t .lefts; rights = t .rights }
-
--- the tables read, with the columns of the literals that are lent
-abbrev pub withLiterals : Tables → ℕ → List ℕ → List ℕ → List ℕ → List ℕ → Tables
-withLiterals t literals sides kinds lefts rights =
-    record { check = t .check; terms = t .terms; literals = literals; symbols = t .symbols; arities = t .arities; used = t .used; colours = t .colours; sides = sides; kinds = kinds; lefts = lefts; rights = rights }
+    record { check = t .check; terms = terms; symbols = symbols; arities = arities; used = used; colours = colours }
