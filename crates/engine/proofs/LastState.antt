@@ -5,11 +5,13 @@ use mathlib.Core.Path.{_≡_, refl, sym, ap, subst, _∙_}
 use Prim.Native.Nat.{ℕ, _<_}
 use native.Mathlib.Omega.{arith}
 use lib.Dec.{T, eqb, leb}
-use lib.ListN.{getD, drop}
+use lib.ListN.{drop}
 use Rattle.tables.specs.Terms.{Term}
-use Rattle.tables.specs.LiteralTable.{Literal}
+use Rattle.tables.specs.LiteralTable.{Literal, literalCount, literalRecord}
 use Rattle.tables.specs.declared.Side.the-variants.{A, B}
 use Rattle.tables.specs.declared.Tables.{Tables}
+use Rattle.reading.specs.Fields.{fieldsOf}
+use Rattle.reading.specs.declared.literal.Fields.{Fields}
 use Rattle.closure.specs.Graph.{Graph, joined}
 use Rattle.closure.specs.Steps.{tableOf}
 use Rattle.closure.specs.Forests.{Each}
@@ -19,7 +21,7 @@ use Rattle.graphs.specs.Rooting.{RootedBy}
 use Rattle.running.specs.Stepping.{OnRun}
 use Rattle.running.specs.declared.state.State.{State as Arrays}
 use Rattle.running.proofs.Beginning.{terms-are}
-use Rattle.running.proofs.BasicSteps.{length-literals, left-is, right-is, side-is, left-within, right-within}
+use Rattle.running.proofs.BasicSteps.{length-literals, left-is, right-is, side-is, sides-in}
 use Rattle.running.proofs.DerivedSteps.{two-test}
 use Rattle.running.proofs.OnRuns.{on-run-sound, arity-small, can-root}
 use Rattle.closure.proofs.Running.OwnRun.{own-run}
@@ -104,40 +106,55 @@ module _ (t : Tables) (s : Arrays) (d : ℕ) (w : Decides t s d) where
   from = w .ends .from
 
   -- the disequality is a record
-  pub decided-within : d < t .literals
-  decided-within = omega (arith, critical-first ls G d (w .found) .within, length-literals t from)
+  within : d < literalCount (from .literals)
+  within = omega (arith, critical-first ls G d (w .found) .within, length-literals (from .terms) (from .literals) (from .sound))
 
-  -- its sides are terms
-  pub sides-in : (getD (t .lefts) d 0 < s .terms) × (getD (t .rights) d 0 < s .terms)
-  sides-in = (
-    omega (arith, left-within t from d decided-within, all-terms t s (w .ends), terms-are t from),
-    omega (arith, right-within t from d decided-within, all-terms t s (w .ends), terms-are t from),
-  )
+  -- and so it is of the literals that are lent
+  pub decided-within : (literals : List ℕ) → from .literals ≡ literals → d < literalCount literals
+  decided-within literals e = subst (λ (x : List ℕ). d < literalCount x) e within
 
-  -- the clause layer is asked for its records
-  pub asking-of : (arrays : Drawing) → Drawn arrays ts ls table G → Asking arrays (s .terms) (s .colours) (getD (t .lefts) d 0) (getD (t .rights) d 0) ts ls table G
-  asking-of arrays drawn =
-      record {
-        drawn = drawn;
-        terms = sym (w .ends .shows .terms);
-        join = subst (λ (u : ℕ). T (joined G u (getD (t .rights) d 0))) (sym (left-is t from d decided-within)) (subst (λ (v : ℕ). T (joined G (literalAt ls d .left) v)) (sym (right-is t from d decided-within)) (critical-found ls G d (w .found) .meets));
-        left-within = sides-in .0;
-        right-within = sides-in .1;
-        coloured = λ v l. sym (ap (leb 2) (shown-colour ts ls (w .ends .state) s (w .ends .shows) v l) ∙ two-test ts ls table v);
-      }
+  module _ (literals : List ℕ) (lent : from .literals ≡ literals) (f : Fields) (read : f ≡ fieldsOf (literalRecord literals d)) where
+    -- what was read of the record is the literal's
+    read-of : f ≡ fieldsOf (literalRecord (from .literals) d)
+    read-of = read ∙ ap (λ (x : List ℕ). fieldsOf (literalRecord x d)) (sym lent)
 
-  -- and what it reads is what the definitions read
-  records-same : clauseRecords (s .terms) (readBetween ts ls table G (sideOf (eqb (getD (t .sides) d 0) 1)) (getD (t .lefts) d 0) (getD (t .rights) d 0)) ≡ recordsFor w
-  unfolding recordsIn summary
-  records-same =
-      let side = side-of (eqb (getD (t .sides) d 0) 1) ∙ side-is t from d decided-within in
-      let left = left-is t from d decided-within in
-      let right = right-is t from d decided-within in
-      λ i. clauseRecords (w .ends .shows .terms i) (readBetween ts ls table G (side i) (left i) (right i))
+    left-read : f .left ≡ literalAt ls d .left
+    left-read = ap (λ (x : Fields). x .left) read-of ∙ left-is (from .terms) (from .literals) (from .sound) d within
 
-  -- so they are counted, and written where they have room
-  pub written-of : (out : List ℕ) (r : ℕ) (out′ : List ℕ) → AllPut (clauseRecords (s .terms) (readBetween ts ls table G (sideOf (eqb (getD (t .sides) d 0) 1)) (getD (t .lefts) d 0) (getD (t .rights) d 0))) out r out′ → Written (recordsFor w) out r out′
-  written-of out r out′ put =
-      let n = s .terms in
-      let cs = readBetween ts ls table G (sideOf (eqb (getD (t .sides) d 0) 1)) (getD (t .lefts) d 0) (getD (t .rights) d 0) in
-      subst (λ (rs : List (List ℕ)). Written rs out r out′) records-same (written-over n cs out r out′ put)
+    right-read : f .right ≡ literalAt ls d .right
+    right-read = ap (λ (x : Fields). x .right) read-of ∙ right-is (from .terms) (from .literals) (from .sound) d within
+
+    -- its sides are terms
+    sides-shown : (f .left < s .terms) × (f .right < s .terms)
+    sides-shown =
+        let r = sides-in (from .terms) (from .literals) (from .sound) d within in (
+          omega (arith, ap (λ (x : Fields). x .left) read-of, r .0, all-terms t s (w .ends), terms-are t from),
+          omega (arith, ap (λ (x : Fields). x .right) read-of, r .1, all-terms t s (w .ends), terms-are t from),
+        )
+
+    -- the clause layer is asked for its records
+    pub asking-of : (arrays : Drawing) → Drawn arrays ts ls table G → Asking arrays (s .terms) (s .colours) (f .left) (f .right) ts ls table G
+    asking-of arrays drawn =
+        record {
+          drawn = drawn;
+          terms = sym (w .ends .shows .terms);
+          join = subst (λ (u : ℕ). T (joined G u (f .right))) (sym left-read) (subst (λ (v : ℕ). T (joined G (literalAt ls d .left) v)) (sym right-read) (critical-found ls G d (w .found) .meets));
+          left-within = sides-shown .0;
+          right-within = sides-shown .1;
+          coloured = λ v l. sym (ap (leb 2) (shown-colour ts ls (w .ends .state) s (w .ends .shows) v l) ∙ two-test ts ls table v);
+        }
+
+    -- what it reads
+    abbrev clauses : List Clause
+    clauses = readBetween ts ls table G (sideOf (eqb (f .side) 1)) (f .left) (f .right)
+
+    -- is what the definitions read
+    records-same : clauseRecords (s .terms) clauses ≡ recordsFor w
+    unfolding recordsIn summary
+    records-same =
+        let side = side-of (eqb (f .side) 1) ∙ ap (λ (x : Fields). cond (eqb (x .side) 1) A B) read-of ∙ side-is (from .terms) (from .literals) (from .sound) d within in
+        λ i. clauseRecords (w .ends .shows .terms i) (readBetween ts ls table G (side i) (left-read i) (right-read i))
+
+    -- so they are counted, and written where they have room
+    pub written-of : (out : List ℕ) (r : ℕ) (out′ : List ℕ) → AllPut (clauseRecords (s .terms) (readBetween ts ls table G (sideOf (eqb (f .side) 1)) (f .left) (f .right))) out r out′ → Written (recordsFor w) out r out′
+    written-of out r out′ put = subst (λ (rs : List (List ℕ)). Written rs out r out′) records-same (written-over (s .terms) clauses out r out′ put)

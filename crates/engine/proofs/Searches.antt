@@ -10,12 +10,14 @@ use lib.ListN.{length, getD}
 use Rattle.tables.specs.Words.{below, orElse, firstBelow}
 use Rattle.tables.specs.Bytes.{wordBytes}
 use Rattle.tables.specs.TermTable.{termCount}
+use Rattle.tables.specs.LiteralTable.{literalCount, literalRecord}
 use Rattle.tables.specs.Colours.{inUse}
 use Rattle.tables.specs.Read.{soundTables}
 use Rattle.tables.specs.declared.Tables.{Tables}
 use Rattle.tables.proofs.Words.{below-mem}
 use Rattle.tables.proofs.Filled.{filled-at}
 use Rattle.tables.proofs.Sound.{length-termsOf}
+use Rattle.reading.specs.Fields.{fieldsOf}
 use Rattle.closure.specs.Graph.{label, joined}
 use Rattle.running.specs.declared.state.State.{State as Arrays}
 use Rattle.running.proofs.Beginning.{sound-tables, read-sound, terms-are, terms-fit}
@@ -32,32 +34,36 @@ unfolding firstBelow
 firstBelow-agree p q zero f = refl
 firstBelow-agree p q (suc n) f = ap₂ (λ (o : Option ℕ) (b : Bool). orElse o (cond b (some n) none)) (firstBelow-agree p q n (λ k h. f k (omega arith))) (f n (omega arith))
 
--- the test that the code makes of a record
-abbrev metIn : Tables → List ℕ → ℕ → Bool
-metIn t labels = metBy (t .kinds) (t .lefts) (t .rights) labels
-
 module _ (t : Tables) (s : Arrays) (w : Ends t s) where
   -- the label of a term is in its place
   label-in : (v : ℕ) → v < 511 → getD (s .labels) v 0 ≡ label (w .state .graph) v
   label-in = shown-label (termsIn (w .from)) (literalsIn (w .from)) (w .state) s (w .shows)
 
-  -- is whether the record is contradicted
-  met-is : (i : ℕ) → i < t .literals → metIn t (s .labels) i ≡ contradicted (literalsIn (w .from)) (w .state .graph) i
+  abbrev bs : List ℕ
+  bs = w .from .terms
+
+  abbrev ls : List ℕ
+  ls = w .from .literals
+
+  -- the test that the code makes of a record is whether it is contradicted
+  met-is : (i : ℕ) → i < literalCount ls → metBy ls (s .labels) i ≡ contradicted (literalsIn (w .from)) (w .state .graph) i
   unfolding contradicted joined
   met-is i h =
       let G = w .state .graph in
-      let small = sides-small t (w .from) i h in
-      ap₂ (λ (x y : Bool). x && y) (ap not (kind-is t (w .from) i h))
+      let f = fieldsOf (literalRecord ls i) in
+      let small = sides-small bs ls (w .from .sound) i h in
+      ap₂ (λ (x y : Bool). x && y) (ap not (kind-is bs ls (w .from .sound) i h))
       (ap₂ eqb
-      (label-in (getD (t .lefts) i 0) (omega (arith, small .0)) ∙ ap (label G) (left-is t (w .from) i h))
-      (label-in (getD (t .rights) i 0) (omega (arith, small .1)) ∙ ap (label G) (right-is t (w .from) i h)))
+      (label-in (f .left) (omega (arith, small .0)) ∙ ap (label G) (left-is bs ls (w .from .sound) i h))
+      (label-in (f .right) (omega (arith, small .1)) ∙ ap (label G) (right-is bs ls (w .from .sound) i h)))
 
-  -- so the first record that meets the code's test is the critical one
-  pub met-first : firstBelow (metIn t (s .labels)) (t .literals) ≡ critical (literalsIn (w .from)) (w .state .graph)
+  -- so the first record of the literals that are lent which meets the test is the critical one
+  pub met-first : (literals : List ℕ) → ls ≡ literals → firstBelow (metBy literals (s .labels)) (literalCount literals) ≡ critical (literalsIn (w .from)) (w .state .graph)
   unfolding critical
-  met-first =
-      firstBelow-agree (metIn t (s .labels)) (contradicted (literalsIn (w .from)) (w .state .graph)) (t .literals) met-is ∙
-      ap (firstBelow (contradicted (literalsIn (w .from)) (w .state .graph))) (sym (length-literals t (w .from)))
+  met-first literals e =
+      ap (λ (x : List ℕ). firstBelow (metBy x (s .labels)) (literalCount x)) (sym e) ∙
+      firstBelow-agree (metBy ls (s .labels)) (contradicted (literalsIn (w .from)) (w .state .graph)) (literalCount ls) met-is ∙
+      ap (firstBelow (contradicted (literalsIn (w .from)) (w .state .graph))) (sym (length-literals bs ls (w .from .sound)))
 
 -- ---- class numbers
 

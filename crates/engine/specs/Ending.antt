@@ -10,8 +10,10 @@ use Rattle.tables.specs.Words.{below, firstBelow}
 use Rattle.tables.specs.Bytes.{wordBytes}
 use Rattle.tables.specs.Terms.{Term}
 use Rattle.tables.specs.TermTable.{termsOf}
-use Rattle.tables.specs.LiteralTable.{Literal, literalsOf}
+use Rattle.tables.specs.LiteralTable.{Literal, literalCount, literalRecord, literalsOf}
 use Rattle.tables.specs.declared.Tables.{Tables}
+use Rattle.reading.specs.Fields.{fieldsOf}
+use Rattle.reading.specs.declared.literal.Fields.{Fields}
 use Rattle.closure.specs.Steps.{State, tableOf}
 use Rattle.closure.specs.OwnRun.{ownRun}
 use Rattle.running.specs.Shown.{Shows}
@@ -62,13 +64,17 @@ pub record Written (rs : List (List ℕ)) (buffer : List ℕ) (count : ℕ) (out
   pub bytes : 8 * length rs ≤ length buffer → out ≡ writtenOver (flatMap (λ r. r) rs) buffer
   pub kept : length buffer < 8 * length rs → out ≡ buffer
 
--- the sides of the first n records have a label
-abbrev pub SidesLabelled : List ℕ → List ℕ → ℕ → Type 0
-SidesLabelled lefts rights n = (i : ℕ) → i < n → (getD lefts i 0 < 511) × (getD rights i 0 < 511)
+-- the sides of all records have a label
+abbrev pub SidesLabelled : List ℕ → Type 0
+SidesLabelled ls = (i : ℕ) → i < literalCount ls → (fieldsOf (literalRecord ls i) .left < 511) × (fieldsOf (literalRecord ls i) .right < 511)
 
--- the test of a record by the columns and the labels: its kind is not 1, and its sides have one label
-abbrev pub metBy : List ℕ → List ℕ → List ℕ → List ℕ → ℕ → Bool
-metBy kinds lefts rights labels i = not (eqb (getD kinds i 0) 1) && eqb (getD labels (getD lefts i 0) 0) (getD labels (getD rights i 0) 0)
+-- the test of a record's fields by the labels: its kind is not 1, and its sides have one label
+abbrev pub meets : List ℕ → Fields → Bool
+meets labels f = not (eqb (f .kind) 1) && eqb (getD labels (f .left) 0) (getD labels (f .right) 0)
+
+-- the same of the record's number
+abbrev pub metBy : List ℕ → List ℕ → ℕ → Bool
+metBy ls labels i = meets labels (fieldsOf (literalRecord ls i))
 
 -- a class number by the marks of the terms in use and the labels of all terms, among the first n terms
 unfoldable pub classBy : List Bool → List ℕ → ℕ → ℕ → ℕ

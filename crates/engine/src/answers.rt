@@ -37,9 +37,16 @@ fn consistent(used: &[bool; 256], labels: &[u16; 511], n: usize, partition: &mut
 }
 
 // The critical disequality is d: the added terms and the clause records, where both have room.
-fn inconsistent(t: Tables, st: State, d: usize, added: &mut [u8], clauses: &mut [u8]) -> Answer
-    requires { ⌜ Decides t st d ⌝ }
-    ensures { λ r. ⌜ ((w : Decides t st d) (partition : List ℕ) → record { answer = r; buffers = record { partition = partition; added = now (added .exit); clauses = now (clauses .exit) } } ≡ inconsistentBy (record { partition = partition; added = now (added .entry); clauses = now (clauses .entry) }) d (map termBytes (w .ends .state .added)) (recordsFor w)) ⌝ }
+fn inconsistent(
+    t: Tables,
+    st: State,
+    d: usize,
+    literals: &[u8],
+    added: &mut [u8],
+    clauses: &mut [u8],
+) -> Answer
+    requires { ⌜ ((w : Decides t st d) × (w .ends .from .literals ≡ now literals)) ⌝ }
+    ensures { λ r. ⌜ ((w : Decides t st d) → w .ends .from .literals ≡ now (literals .entry) → (partition : List ℕ) → record { answer = r; buffers = record { partition = partition; added = now (added .exit); clauses = now (clauses .exit) } } ≡ inconsistentBy (record { partition = partition; added = now (added .entry); clauses = now (clauses .entry) }) d (map termBytes (w .ends .state .added)) (recordsFor w)) ⌝ }
 {
     let count = st.terms - t.terms;
     if added.len() < 16 * count {
@@ -49,7 +56,7 @@ fn inconsistent(t: Tables, st: State, d: usize, added: &mut [u8], clauses: &mut 
         };
     }
     let room = clauses.len() / 8;
-    let records = summaries::clause_records(t, st, d, clauses);
+    let records = summaries::clause_records(st, d, literals, clauses);
     if room < records {
         return Answer::Refused {
             number: 7,
@@ -69,12 +76,13 @@ fn inconsistent(t: Tables, st: State, d: usize, added: &mut [u8], clauses: &mut 
 pub fn ended(
     t: Tables,
     end: Stepped,
+    literals: &[u8],
     partition: &mut [u8],
     added: &mut [u8],
     clauses: &mut [u8],
 ) -> Answer
-    requires { ⌜ ((from : ReadFrom t) × RunEnds (termsOf (from .terms)) (literalsOf (from .literals)) end) ⌝ }
-    ensures { λ r. ⌜ ((from : ReadFrom t) → RunEnds (termsOf (from .terms)) (literalsOf (from .literals)) end → record { answer = r; buffers = record { partition = now (partition .exit); added = now (added .exit); clauses = now (clauses .exit) } } ≡ endedBy (record { partition = now (partition .entry); added = now (added .entry); clauses = now (clauses .entry) }) (termsIn from) (literalsIn from) (ownRun (termsIn from) (literalsIn from))) ⌝ }
+    requires { ⌜ ((from : ReadFrom t) × RunEnds (termsOf (from .terms)) (literalsOf (from .literals)) end × (from .literals ≡ now literals)) ⌝ }
+    ensures { λ r. ⌜ ((from : ReadFrom t) → RunEnds (termsOf (from .terms)) (literalsOf (from .literals)) end → from .literals ≡ now (literals .entry) → record { answer = r; buffers = record { partition = now (partition .exit); added = now (added .exit); clauses = now (clauses .exit) } } ≡ endedBy (record { partition = now (partition .entry); added = now (added .entry); clauses = now (clauses .entry) }) (termsIn from) (literalsIn from) (ownRun (termsIn from) (literalsIn from))) ⌝ }
 {
     if end.stuck {
         return Answer::Refused {
@@ -83,9 +91,9 @@ pub fn ended(
         };
     }
     let st = end.state;
-    let found = verdict::critical(t.literals, &t.kinds, &t.lefts, &t.rights, &st.labels);
+    let found = verdict::critical(literals, &st.labels);
     match found {
-        Found::At(d) => inconsistent(t, st, d, added, clauses),
+        Found::At(d) => inconsistent(t, st, d, literals, added, clauses),
         Found::Nothing => consistent(&t.used, &st.labels, t.terms, partition),
     }
 }

@@ -32,8 +32,8 @@ pub fn split(
         return verdict::refusal(check);
     };
     let rows = reading::arguments::rows(terms);
-    let end = run::own_run(t, rows);
-    answers::ended(t, end, partition, added, clauses)
+    let end = run::own_run(t, rows, literals);
+    answers::ended(t, end, literals, partition, added, clauses)
 }
 
 // The numbers of an answer.

@@ -3,9 +3,11 @@
 use super::forest;
 use graphs::rooting;
 use marking::drawing::Drawing;
+use reading::literal;
 use running::state::State;
 use summing::summary;
-use tables::Tables;
+ghost use mathlib.Core.Path.{_≡_};
+ghost use Rattle.tables.specs.declared.Tables.{Tables as Read};
 ghost use Rattle.engine.specs.Ending.{EndsSome, DrawnLast, Decides, recordsFor, Written};
 
 // The last graph and its terms, as the clause layer is handed them.
@@ -43,15 +45,16 @@ fn drawn(st: State) -> Drawing
 }
 
 // Counts the records, and writes them where all of them have room.
-pub fn clause_records(t: Tables, st: State, d: usize, out: &mut [u8]) -> usize
-    requires { ⌜ Decides t st d ⌝ }
-    ensures { λ r. ⌜ ((w : Decides t st d) → Written (recordsFor w) (now (out .entry)) r (now (out .exit))) ⌝ }
+pub fn clause_records(st: State, d: usize, literals: &[u8], out: &mut [u8]) -> usize
+    requires { ⌜ ((t : Read) × (w : Decides t st d) × (w .ends .from .literals ≡ now literals)) ⌝ }
+    ensures { λ r. ⌜ ((t : Read) (w : Decides t st d) → w .ends .from .literals ≡ now (literals .entry) → Written (recordsFor w) (now (out .entry)) r (now (out .exit))) ⌝ }
 {
     let arrays = drawn(st);
     let colours = st.colours;
     let vertices = st.terms as u16;
-    let left = t.lefts[d];
-    let right = t.rights[d];
-    let ina = t.sides[d] == 1;
+    let l = literal::read_at(literals, d);
+    let left = l.left;
+    let right = l.right;
+    let ina = l.side == 1;
     summary::write(arrays, vertices, &colours, ina, left, right, out)
 }

@@ -1,30 +1,27 @@
 // What a run's last state says: the critical disequality, or none. And the answer where a row of the checks refuses.
 
 use demands::Answer;
+use reading::literal;
 use tables::Check;
 use tables::Found;
 ghost use mathlib.Core.Path.{_≡_};
-ghost use Prim.Native.Nat.{_≤_};
 ghost use Rattle.tables.specs.Words.{firstBelow};
+ghost use Rattle.tables.specs.LiteralTable.{literalCount};
 ghost use Rattle.tables.specs.Checks.{foundOf, numberOf, placeIn};
 ghost use Rattle.engine.specs.Ending.{SidesLabelled, metBy};
 
 // "the lowest record of kind 2 whose sides are joined when no step is left": sides are joined where they have one label.
-pub fn critical<'a>(
-    literals: usize,
-    kinds: &'a [u8; 1024],
-    lefts: &'a [u16; 1024],
-    rights: &'a [u16; 1024],
-    labels: &'a [u16; 511],
-) -> Found
-    requires { ⌜ (literals ≤ 1024) × SidesLabelled (now lefts) (now rights) literals ⌝ }
-    ensures { λ r. ⌜ foundOf r ≡ firstBelow (metBy (now (kinds .entry)) (now (lefts .entry)) (now (rights .entry)) (now (labels .entry))) literals ⌝ }
+pub fn critical(literals: &[u8], labels: &[u16; 511]) -> Found
+    requires { ⌜ SidesLabelled (now literals) ⌝ }
+    ensures { λ r. ⌜ foundOf r ≡ firstBelow (metBy (now (literals .entry)) (now (labels .entry))) (literalCount (now (literals .entry))) ⌝ }
 {
+    let count = literals.len() / 8;
     let mut i = 0;
-    while i < literals {
-        let left = lefts[i] as usize;
-        let right = rights[i] as usize;
-        if (kinds[i] != 1) & (labels[left] == labels[right]) {
+    while i < count {
+        let l = literal::read_at(literals, i);
+        let left = l.left as usize;
+        let right = l.right as usize;
+        if (l.kind != 1) & (labels[left] == labels[right]) {
             return Found::At(i);
         }
         i += 1;

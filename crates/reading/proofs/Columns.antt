@@ -34,18 +34,6 @@ symbolColumn bs = filled 256 0 (termCount bs) (λ k. symbolField (termRecord bs 
 abbrev pub arityColumn : List ℕ → List ℕ
 arityColumn bs = filled 256 0 (termCount bs) (λ k. arityField (termRecord bs k))
 
--- the side of each literal record, as its byte
-abbrev pub sideColumn : List ℕ → List ℕ
-sideColumn ls = filled 1024 0 (literalCount ls) (λ k. byteAt (literalRecord ls k) 0)
-
--- the left side of each literal record
-abbrev pub leftColumn : List ℕ → List ℕ
-leftColumn ls = filled 1024 0 (literalCount ls) (λ k. wordAt (literalRecord ls k) 2)
-
--- the right side of each literal record
-abbrev pub rightColumn : List ℕ → List ℕ
-rightColumn ls = filled 1024 0 (literalCount ls) (λ k. wordAt (literalRecord ls k) 4)
-
 -- "1 = A, 2 = B"
 abbrev pub sideNumber : Side → ℕ
 sideNumber A = 1
@@ -117,31 +105,22 @@ module _ (bs ls : List ℕ) (s : SoundTables bs ls) where
 
   -- ---- the literals
 
-  -- an entry of the left sides
-  left-at : (k : ℕ) → k < literalCount ls → getD (leftColumn ls) k 0 ≡ wordAt (literalRecord ls k) 2
-  left-at k h = filled-at (λ i. wordAt (literalRecord ls i) 2) 1024 0 (literalCount ls) k 0 h (s .literals-fit)
-
-  -- an entry of the right sides
-  right-at : (k : ℕ) → k < literalCount ls → getD (rightColumn ls) k 0 ≡ wordAt (literalRecord ls k) 4
-  right-at k h = filled-at (λ i. wordAt (literalRecord ls i) 4) 1024 0 (literalCount ls) k 0 h (s .literals-fit)
-
-  -- an entry of the sides is the number of the literal's side
-  side-at : (k : ℕ) → k < literalCount ls → getD (sideColumn ls) k 0 ≡ sideNumber (literalOf (literalRecord ls k) .side)
+  -- the side's byte is the number of the literal's side
+  side-at : (k : ℕ) → k < literalCount ls → byteAt (literalRecord ls k) 0 ≡ sideNumber (literalOf (literalRecord ls k) .side)
   unfolding literalOf
-  side-at k h = filled-at (λ i. byteAt (literalRecord ls i) 0) 1024 0 (literalCount ls) k 0 h (s .literals-fit) ∙ sym (number-of-side (byteAt (literalRecord ls k) 0) (sound-literal bs ls s k h .side))
+  side-at k h = sym (number-of-side (byteAt (literalRecord ls k) 0) (sound-literal bs ls s k h .side))
 
   -- the literals' sides are term numbers
-  pub literals-within : LiteralsWithin (leftColumn ls) (rightColumn ls) (literalCount ls)
+  pub literals-within : LiteralsWithin ls
   literals-within =
       record {
-        fits = s .literals-fit;
-        left = λ k h. omega (arith, left-at k h, sound-literal bs ls s k h .left, s .terms-fit);
-        right = λ k h. omega (arith, right-at k h, sound-literal bs ls s k h .right, s .terms-fit);
+        left = λ k h. omega (arith, sound-literal bs ls s k h .left, s .terms-fit);
+        right = λ k h. omega (arith, sound-literal bs ls s k h .right, s .terms-fit);
       }
 
   -- ---- what is marked
 
-  module _ (X : Side) (marks : List Bool) (x : Inside (argumentRows bs) (arityColumn bs) (sideColumn ls) (leftColumn ls) (rightColumn ls) (sideNumber X) (literalCount ls) marks) where
+  module _ (X : Side) (marks : List Bool) (x : Inside (argumentRows bs) (arityColumn bs) ls (sideNumber X) (literalCount ls) marks) where
     -- what is marked stands in a literal of the side
     inside-part : (u : ℕ) → Marked marks u → (l : Literal) × List·Memᴰ l (literalsOf ls) × (l .side ≡ X) × PartOf (termsOf bs) u l
     unfolding literalsOf literalOf
@@ -151,7 +130,7 @@ module _ (bs ls : List ℕ) (s : SoundTables bs ls) where
           literalOf (literalRecord ls k),
           Memᴰ·map (λ i. literalOf (literalRecord ls i)) (mem-below (literalCount ls) k (r .1)),
           sideNumber-one (literalOf (literalRecord ls k) .side) X (sym (side-at k (r .1)) ∙ r .2),
-          ⊎-elim (λ (p : Part (termsOf bs) u (getD (leftColumn ls) k 0)). inl (subst (Part (termsOf bs) u) (left-at k (r .1)) p)) (λ (p : Part (termsOf bs) u (getD (rightColumn ls) k 0)). inr (subst (Part (termsOf bs) u) (right-at k (r .1)) p)) (r .3),
+          r .3,
         )
 
     -- and what stands in one is marked
@@ -163,8 +142,8 @@ module _ (bs ls : List ℕ) (s : SoundTables bs ls) where
         let h : k < literalCount ls = below-mem (literalCount ls) (r .1) in
         let w = x .reached k h (side-at k h ∙ ap sideNumber (ap (λ (y : Literal). y .side) (r .2) ∙ e)) in
         let under : (t : ℕ) → Part (termsOf bs) u t → Marked marks t → Marked marks u = λ t q n. part-marked (argumentRows bs) (arityColumn bs) (termsOf bs) described marks (x .closed) q n in
-        let lefts : getD (leftColumn ls) k 0 ≡ l .left = left-at k h ∙ ap (λ (y : Literal). y .left) (r .2) in
-        let rights : getD (rightColumn ls) k 0 ≡ l .right = right-at k h ∙ ap (λ (y : Literal). y .right) (r .2) in
+        let lefts : wordAt (literalRecord ls k) 2 ≡ l .left = ap (λ (y : Literal). y .left) (r .2) in
+        let rights : wordAt (literalRecord ls k) 4 ≡ l .right = ap (λ (y : Literal). y .right) (r .2) in
         ⊎-elim (λ (q : Part (termsOf bs) u (l .left)). under (l .left) q (subst (Marked marks) lefts (w .0))) (λ (q : Part (termsOf bs) u (l .right)). under (l .right) q (subst (Marked marks) rights (w .1))) p
 
     -- an entry of what occurs: whether the term's symbol occurs in some literal of the side
@@ -211,7 +190,7 @@ module _ (bs ls : List ℕ) (s : SoundTables bs ls) where
             let l : u < termCount bs = omega (arith, part-le ts (lower-arguments bs ls s) (omega (arith, length-termsOf bs)) (mem-part ts t u m)) in
             filled-at (λ k. someBelow (sameSymbolInside (symbolColumn bs) marks k) (termCount bs)) 256 false (termCount bs) u false l (s .terms-fit) ∙ occurring-at u l
 
-  module _ (a b : List Bool) (x : Inside (argumentRows bs) (arityColumn bs) (sideColumn ls) (leftColumn ls) (rightColumn ls) 1 (literalCount ls) a) (y : Inside (argumentRows bs) (arityColumn bs) (sideColumn ls) (leftColumn ls) (rightColumn ls) 2 (literalCount ls) b) where
+  module _ (a b : List Bool) (x : Inside (argumentRows bs) (arityColumn bs) ls 1 (literalCount ls) a) (y : Inside (argumentRows bs) (arityColumn bs) ls 2 (literalCount ls) b) where
     -- the colours that are read are those of the definitions
     pub colours-read : filled 256 0 (termCount bs) (partsColour (occurringColumn A a x) (occurringColumn B b y) (termsOf bs)) ≡ filled 256 0 (termCount bs) (colourNumber (termsOf bs) (literalsOf ls) (termsOf bs))
     unfolding colourNumber
@@ -247,48 +226,34 @@ pub record Columns : Type 0 where
   pub symbols : List ℕ
   pub arities : List ℕ
   pub rows : List (List ℕ)
-  pub sides : List ℕ
-  pub lefts : List ℕ
-  pub rights : List ℕ
   pub tables : SoundTables bs ls
   pub symbols-read : symbols ≡ symbolColumn bs
   pub arities-read : arities ≡ arityColumn bs
   pub rows-read : rows ≡ argumentRows bs
-  pub sides-read : sides ≡ sideColumn ls
-  pub lefts-read : lefts ≡ leftColumn ls
-  pub rights-read : rights ≡ rightColumn ls
 
 -- the terms of a side are marked in the arrays
 abbrev pub Marks : Columns → ℕ → List Bool → Type 0
-Marks c side marks = Inside (c .rows) (c .arities) (c .sides) (c .lefts) (c .rights) side (literalCount (c .ls)) marks
+Marks c side marks = Inside (c .rows) (c .arities) (c .ls) side (literalCount (c .ls)) marks
 
 module _ (c : Columns) where
   -- what holds of the columns holds of the arrays
-  columns-carry : (P : List (List ℕ) → List ℕ → List ℕ → List ℕ → List ℕ → Type 0) → P (argumentRows (c .bs)) (arityColumn (c .bs)) (sideColumn (c .ls)) (leftColumn (c .ls)) (rightColumn (c .ls)) → P (c .rows) (c .arities) (c .sides) (c .lefts) (c .rights)
+  columns-carry : (P : List (List ℕ) → List ℕ → Type 0) → P (argumentRows (c .bs)) (arityColumn (c .bs)) → P (c .rows) (c .arities)
   columns-carry P x =
-      subst (λ (r : List (List ℕ)). P r (c .arities) (c .sides) (c .lefts) (c .rights)) (sym (c .rows-read))
-      (subst (λ (a : List ℕ). P (argumentRows (c .bs)) a (c .sides) (c .lefts) (c .rights)) (sym (c .arities-read))
-      (subst (λ (d : List ℕ). P (argumentRows (c .bs)) (arityColumn (c .bs)) d (c .lefts) (c .rights)) (sym (c .sides-read))
-      (subst (λ (l : List ℕ). P (argumentRows (c .bs)) (arityColumn (c .bs)) (sideColumn (c .ls)) l (c .rights)) (sym (c .lefts-read))
-      (subst (λ (r : List ℕ). P (argumentRows (c .bs)) (arityColumn (c .bs)) (sideColumn (c .ls)) (leftColumn (c .ls)) r) (sym (c .rights-read)) x))))
+      subst (λ (r : List (List ℕ)). P r (c .arities)) (sym (c .rows-read)) (subst (λ (a : List ℕ). P (argumentRows (c .bs)) a) (sym (c .arities-read)) x)
 
   -- the rows are lower
   pub columns-lower : LowerRows (c .rows) (c .arities)
-  columns-lower = columns-carry (λ r a d l t. LowerRows r a) (lower-rows (c .bs) (c .ls) (c .tables))
-
-  -- the literals' sides are term numbers
-  pub columns-within : LiteralsWithin (c .lefts) (c .rights) (literalCount (c .ls))
-  columns-within = columns-carry (λ r a d l t. LiteralsWithin l t (literalCount (c .ls))) (literals-within (c .bs) (c .ls) (c .tables))
+  columns-lower = columns-carry LowerRows (lower-rows (c .bs) (c .ls) (c .tables))
 
   -- the rows describe the terms
   columns-described : Describes (c .rows) (c .arities) (termsOf (c .bs))
-  columns-described = columns-carry (λ r a d l t. Describes r a (termsOf (c .bs))) (described (c .bs) (c .ls) (c .tables))
+  columns-described = columns-carry (λ r a. Describes r a (termsOf (c .bs))) (described (c .bs) (c .ls) (c .tables))
 
   -- marks of the arrays are marks of the columns
-  columns-inside : (side : ℕ) (marks : List Bool) → Marks c side marks → Inside (argumentRows (c .bs)) (arityColumn (c .bs)) (sideColumn (c .ls)) (leftColumn (c .ls)) (rightColumn (c .ls)) side (literalCount (c .ls)) marks
+  columns-inside : (side : ℕ) (marks : List Bool) → Marks c side marks → Inside (argumentRows (c .bs)) (arityColumn (c .bs)) (c .ls) side (literalCount (c .ls)) marks
   columns-inside side marks =
       columns-carry
-      (λ r a d l t. Inside r a d l t side (literalCount (c .ls)) marks → Inside (argumentRows (c .bs)) (arityColumn (c .bs)) (sideColumn (c .ls)) (leftColumn (c .ls)) (rightColumn (c .ls)) side (literalCount (c .ls)) marks)
+      (λ r a. Inside r a (c .ls) side (literalCount (c .ls)) marks → Inside (argumentRows (c .bs)) (arityColumn (c .bs)) (c .ls) side (literalCount (c .ls)) marks)
       (λ x. x)
 
   -- what occurs according to the marks of a side

@@ -9,8 +9,12 @@ use native.Mathlib.Omega.{arith}
 use lib.Dec.{T, eqb, eqb→eq, eqb-refl, T-not, not-T}
 use lib.ListN.{length, getD, set, replicate, length-set, length-replicate}
 use lib.Seq.{getD-set-same, getD-set-other, getD-take, length-take-le}
+use Rattle.reading.specs.declared.literal.Fields.{Fields}
+use Rattle.reading.specs.Fields.{fieldsOf}
 use Rattle.reading.specs.Marks.{argumentsIn, Marked, LowerRows, Closed, Describes, MarkedToo, StandsIn, Inside, markedAndMissing}
 use Rattle.tables.specs.Words.{every, someBelow}
+use Rattle.tables.specs.Bytes.{byteAt, wordAt}
+use Rattle.tables.specs.LiteralTable.{literalRecord}
 use Rattle.tables.specs.Terms.{Term, parts, Part, itself, deeper, LowerArguments}
 use Rattle.tables.proofs.Words.{and-left, and-right, and-both, decide, passes, by-test, same-test, getD-mem, mem-getD, below-or-is, every-all, all-every, someBelow-some, some-someBelow}
 use Rattle.tables.proofs.Terms.{mem-part, part-mem, part-le}
@@ -115,9 +119,16 @@ already rows arities t marks x h = record { sized = refl; closed = x; reached = 
 
 -- ---- the terms inside the literals of a side
 
-module _ (rows : List (List ℕ)) (arities sides lefts rights : List ℕ) (side : ℕ) where
+module _ (rows : List (List ℕ)) (arities ls : List ℕ) (side : ℕ) where
+  -- the two sides of a record
+  abbrev leftOf : ℕ → ℕ
+  leftOf k = wordAt (literalRecord ls k) 2
+
+  abbrev rightOf : ℕ → ℕ
+  rightOf k = wordAt (literalRecord ls k) 4
+
   -- no literal yet
-  pub inside-none : Inside rows arities sides lefts rights side 0 (replicate 256 false)
+  pub inside-none : Inside rows arities ls side 0 (replicate 256 false)
   inside-none =
       record {
         sized = length-replicate 256 false;
@@ -127,26 +138,29 @@ module _ (rows : List (List ℕ)) (arities sides lefts rights : List ℕ) (side 
       }
 
   -- what stands in the first literals stands in one more of them
-  stands-more : (ts : List Term) (count u : ℕ) → StandsIn ts sides lefts rights side count u → StandsIn ts sides lefts rights side (count + 1) u
+  stands-more : (ts : List Term) (count u : ℕ) → StandsIn ts ls side count u → StandsIn ts ls side (count + 1) u
   stands-more ts count u r = (r .0, omega (arith, r .1), r .2, r .3)
 
-  -- a literal of the side: its two sides are marked
-  pub inside-more : (k : ℕ) (marks mid after : List Bool) → getD sides k 0 ≡ side → Inside rows arities sides lefts rights side k marks → MarkedToo rows arities (getD lefts k 0) marks mid → MarkedToo rows arities (getD rights k 0) mid after → Inside rows arities sides lefts rights side (k + 1) after
-  inside-more k marks mid after e x y z =
+  -- a literal of the side: its two sides, which were read, are marked
+  pub inside-more : (k : ℕ) (l : Fields) → l ≡ fieldsOf (literalRecord ls k) → (marks mid after : List Bool) → l .side ≡ side → Inside rows arities ls side k marks → MarkedToo rows arities (l .left) marks mid → MarkedToo rows arities (l .right) mid after → Inside rows arities ls side (k + 1) after
+  inside-more k l q marks mid after e x v w =
+      let y : MarkedToo rows arities (leftOf k) marks mid = subst (λ (f : Fields). MarkedToo rows arities (f .left) marks mid) q v in
+      let z : MarkedToo rows arities (rightOf k) mid after = subst (λ (f : Fields). MarkedToo rows arities (f .right) mid after) q w in
+      let here : byteAt (literalRecord ls k) 0 ≡ side = subst (λ (f : Fields). f .side ≡ side) q e in
       record {
         sized = z .sized ∙ y .sized ∙ x .sized;
         closed = z .closed;
-        reached = λ i h q. ⊎-elim (λ (l : i < k). let r = x .reached i l q in (z .kept (getD lefts i 0) (y .kept (getD lefts i 0) (r .0)), z .kept (getD rights i 0) (y .kept (getD rights i 0) (r .1)))) (λ (l : i ≡ k). subst (λ (n : ℕ). Marked after (getD lefts n 0) × Marked after (getD rights n 0)) (sym l) (z .kept (getD lefts k 0) (y .reached), z .reached)) (below-or-is i k (omega (arith, h)));
-        only = λ ts d u m. ⊎-elim (λ (n : Marked mid u). ⊎-elim (λ (w : Marked marks u). stands-more ts k u (x .only ts d u w)) (λ (p : Part ts u (getD lefts k 0)). (k, omega arith, e, inl p)) (y .only ts d u n)) (λ (p : Part ts u (getD rights k 0)). (k, omega arith, e, inr p)) (z .only ts d u m);
+        reached = λ i h p. ⊎-elim (λ (m : i < k). let r = x .reached i m p in (z .kept (leftOf i) (y .kept (leftOf i) (r .0)), z .kept (rightOf i) (y .kept (rightOf i) (r .1)))) (λ (m : i ≡ k). subst (λ (n : ℕ). Marked after (leftOf n) × Marked after (rightOf n)) (sym m) (z .kept (leftOf k) (y .reached), z .reached)) (below-or-is i k (omega (arith, h)));
+        only = λ ts d u m. ⊎-elim (λ (n : Marked mid u). ⊎-elim (λ (r : Marked marks u). stands-more ts k u (x .only ts d u r)) (λ (p : Part ts u (leftOf k)). (k, omega arith, here, inl p)) (y .only ts d u n)) (λ (p : Part ts u (rightOf k)). (k, omega arith, here, inr p)) (z .only ts d u m);
       }
 
   -- a literal of the other side: nothing is marked
-  pub inside-same : (k : ℕ) (marks : List Bool) → (getD sides k 0 ≡ side → ⊥) → Inside rows arities sides lefts rights side k marks → Inside rows arities sides lefts rights side (k + 1) marks
-  inside-same k marks n x =
+  pub inside-same : (k : ℕ) (l : Fields) → l ≡ fieldsOf (literalRecord ls k) → (marks : List Bool) → (l .side ≡ side → ⊥) → Inside rows arities ls side k marks → Inside rows arities ls side (k + 1) marks
+  inside-same k l q marks n x =
       record {
         sized = x .sized;
         closed = x .closed;
-        reached = λ i h q. ⊎-elim (λ (l : i < k). x .reached i l q) (λ (l : i ≡ k). absurd (n (ap (λ (j : ℕ). getD sides j 0) (sym l) ∙ q))) (below-or-is i k (omega (arith, h)));
+        reached = λ i h p. ⊎-elim (λ (m : i < k). x .reached i m p) (λ (m : i ≡ k). absurd (n (ap (λ (f : Fields). f .side) q ∙ ap (λ (j : ℕ). byteAt (literalRecord ls j) 0) (sym m) ∙ p))) (below-or-is i k (omega (arith, h)));
         only = λ ts d u m. stands-more ts k u (x .only ts d u m);
       }
 

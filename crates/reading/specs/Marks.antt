@@ -7,7 +7,9 @@ use Prim.Native.Nat.{ℕ, _+_, _≤_, _<_}
 use lib.Dec.{T, eqb}
 use lib.ListN.{length, getD, take}
 use Rattle.tables.specs.Words.{every}
+use Rattle.tables.specs.Bytes.{byteAt, wordAt}
 use Rattle.tables.specs.Terms.{Term, termAt, parts, Part}
+use Rattle.tables.specs.LiteralTable.{literalCount, literalRecord}
 
 -- the arguments of term t: as many of its row as its arity says
 abbrev pub argumentsIn : List (List ℕ) → List ℕ → ℕ → List ℕ
@@ -46,23 +48,22 @@ pub record MarkedToo (rows : List (List ℕ)) (arities : List ℕ) (t : ℕ) (be
   pub kept : (u : ℕ) → Marked before u → Marked after u
   pub only : (ts : List Term) → Describes rows arities ts → (u : ℕ) → Marked after u → Marked before u ⊎ Part ts u t
 
--- there are at most 1,024 literals, and their sides are term numbers
-pub record LiteralsWithin (lefts rights : List ℕ) (count : ℕ) : Type 0 where
-  pub fits : count ≤ 1024
-  pub left : (k : ℕ) → k < count → getD lefts k 0 < 256
-  pub right : (k : ℕ) → k < count → getD rights k 0 < 256
+-- the sides of the literals are term numbers
+pub record LiteralsWithin (ls : List ℕ) : Type 0 where
+  pub left : (k : ℕ) → k < literalCount ls → wordAt (literalRecord ls k) 2 < 256
+  pub right : (k : ℕ) → k < literalCount ls → wordAt (literalRecord ls k) 4 < 256
 
 -- u is a part of a side of a literal of the named side, among the first literals
-abbrev pub StandsIn : List Term → List ℕ → List ℕ → List ℕ → ℕ → ℕ → ℕ → Type 0
-StandsIn ts sides lefts rights side count u =
-    (k : ℕ) × (k < count) × (getD sides k 0 ≡ side) × (Part ts u (getD lefts k 0) ⊎ Part ts u (getD rights k 0))
+abbrev pub StandsIn : List Term → List ℕ → ℕ → ℕ → ℕ → Type 0
+StandsIn ts ls side count u =
+    (k : ℕ) × (k < count) × (byteAt (literalRecord ls k) 0 ≡ side) × (Part ts u (wordAt (literalRecord ls k) 2) ⊎ Part ts u (wordAt (literalRecord ls k) 4))
 
 -- the sides of these literals and all their parts are marked, and nothing else is
-pub record Inside (rows : List (List ℕ)) (arities sides lefts rights : List ℕ) (side count : ℕ) (marks : List Bool) : Type 0 where
+pub record Inside (rows : List (List ℕ)) (arities ls : List ℕ) (side count : ℕ) (marks : List Bool) : Type 0 where
   pub sized : length marks ≡ 256
   pub closed : Closed rows arities marks
-  pub reached : (k : ℕ) → k < count → getD sides k 0 ≡ side → Marked marks (getD lefts k 0) × Marked marks (getD rights k 0)
-  pub only : (ts : List Term) → Describes rows arities ts → (u : ℕ) → Marked marks u → StandsIn ts sides lefts rights side count u
+  pub reached : (k : ℕ) → k < count → byteAt (literalRecord ls k) 0 ≡ side → Marked marks (wordAt (literalRecord ls k) 2) × Marked marks (wordAt (literalRecord ls k) 4)
+  pub only : (ts : List Term) → Describes rows arities ts → (u : ℕ) → Marked marks u → StandsIn ts ls side count u
 
 -- u is inside and has the symbol of t
 abbrev pub sameSymbolInside : List ℕ → List Bool → ℕ → ℕ → Bool

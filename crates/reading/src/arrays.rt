@@ -2,7 +2,6 @@
 
 use super::arguments;
 use super::colouring;
-use super::literal_table;
 use super::term_table;
 use tables::Check;
 use tables::Tables;
@@ -16,16 +15,11 @@ pub fn sound(terms: &[u8], literals: &[u8]) -> Tables
     ensures { λ r. ⌜ r ≡ soundTables Check.Sound (now (terms .entry)) (now (literals .entry)) ⌝ }
 {
     let count = terms.len() / 16;
-    let records = literals.len() / 8;
     let symbols = term_table::term_words(terms, 0);
     let arities = term_table::term_bytes(terms, 2);
     let rows = arguments::rows(terms);
-    let sides = literal_table::literal_bytes(literals, 0);
-    let kinds = literal_table::literal_bytes(literals, 1);
-    let lefts = literal_table::literal_words(literals, 2);
-    let rights = literal_table::literal_words(literals, 4);
-    let a = colouring::inside(&rows, &arities, &sides, &lefts, &rights, records, 1);
-    let b = colouring::inside(&rows, &arities, &sides, &lefts, &rights, records, 2);
+    let a = colouring::inside(&rows, &arities, literals, 1);
+    let b = colouring::inside(&rows, &arities, literals, 2);
     let used = colouring::in_use(&a, &b, count);
     let in_a = colouring::occurring(&symbols, &a, count);
     let in_b = colouring::occurring(&symbols, &b, count);
@@ -33,15 +27,10 @@ pub fn sound(terms: &[u8], literals: &[u8]) -> Tables
     Tables {
         check: Check::Sound,
         terms: count,
-        literals: records,
         symbols,
         arities,
         used,
         colours,
-        sides,
-        kinds,
-        lefts,
-        rights,
     }
 }
 
@@ -52,14 +41,9 @@ pub fn refused(check: Check) -> Tables
     Tables {
         check,
         terms: 0,
-        literals: 0,
         symbols: [0; 256],
         arities: [0; 256],
         used: [false; 256],
         colours: [0; 256],
-        sides: [0; 1024],
-        kinds: [0; 1024],
-        lefts: [0; 1024],
-        rights: [0; 1024],
     }
 }

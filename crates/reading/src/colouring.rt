@@ -1,4 +1,6 @@
 // Terms in use and colours: which terms stand in the literals, and whose symbols all occur on a side.
+
+use super::literal;
 ghost use mathlib.Core.Bool.{false, cond, not, _||_};
 ghost use mathlib.Core.List.{List};
 ghost use mathlib.Core.Path.{_≡_};
@@ -6,6 +8,7 @@ ghost use Prim.Native.Nat.{_+_, _≤_, _<_};
 ghost use lib.ListN.{length, getD};
 ghost use Rattle.tables.specs.Words.{someBelow};
 ghost use Rattle.tables.specs.Terms.{Term};
+ghost use Rattle.tables.specs.LiteralTable.{literalCount};
 ghost use Rattle.reading.specs.Marks.{LowerRows, Markable, Describes, MarkedToo, LiteralsWithin, Inside, sameSymbolInside, markedAndMissing, partsColour};
 ghost use Rattle.tables.specs.Read.{filled};
 
@@ -27,25 +30,19 @@ fn mark(rows: &[[u16; 4]; 256], arities: &[u8; 256], marks: &mut [bool; 256], t:
 }
 
 // Which terms stand in the literals of a side: the sides of these literals and, all the way down, their arguments.
-pub fn inside(
-    rows: &[[u16; 4]; 256],
-    arities: &[u8; 256],
-    sides: &[u8; 1024],
-    lefts: &[u16; 1024],
-    rights: &[u16; 1024],
-    literals: usize,
-    side: u8,
-) -> [bool; 256]
+pub fn inside(rows: &[[u16; 4]; 256], arities: &[u8; 256], literals: &[u8], side: u8) -> [bool; 256]
     requires { ⌜ LowerRows (now rows) (now arities) ⌝ }
-    requires { ⌜ LiteralsWithin (now lefts) (now rights) literals ⌝ }
-    ensures { λ r. ⌜ Inside (now (rows .entry)) (now (arities .entry)) (now (sides .entry)) (now (lefts .entry)) (now (rights .entry)) side literals r ⌝ }
+    requires { ⌜ LiteralsWithin (now literals) ⌝ }
+    ensures { λ r. ⌜ Inside (now (rows .entry)) (now (arities .entry)) (now (literals .entry)) side (literalCount (now (literals .entry))) r ⌝ }
 {
     let mut marks = [false; 256];
+    let count = literals.len() / 8;
     let mut k = 0;
-    while k < literals {
-        if sides[k] == side {
-            mark(rows, arities, &mut marks, lefts[k] as usize);
-            mark(rows, arities, &mut marks, rights[k] as usize);
+    while k < count {
+        let l = literal::read_at(literals, k);
+        if l.side == side {
+            mark(rows, arities, &mut marks, l.left as usize);
+            mark(rows, arities, &mut marks, l.right as usize);
         }
         k += 1;
     }

@@ -6,6 +6,7 @@ mod bytes;
 pub mod checks;
 mod colouring;
 mod earlier;
+pub mod literal;
 mod literal_table;
 mod term_table;
 

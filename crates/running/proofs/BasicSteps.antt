@@ -1,4 +1,4 @@
--- The basic steps, one record after the other: what the columns say of a record, one turn more, and a bound on the edges.
+-- The basic steps, one record after the other: what the fields of a record say, one turn more, and a bound on the edges.
 use mathlib.Core.Bool.{Bool, true, false, cond, not, _&&_}
 use mathlib.Core.List.{List, [], _∷_, _++_, List·Memᴰ, List·Memᴰ·head, List·Memᴰ·tail, Memᴰ·append-left}
 use mathlib.Core.Path.{_≡_, refl, sym, ap, ap₂, subst, _∙_}
@@ -9,27 +9,27 @@ use lib.Dec.{eqb}
 use lib.ListN.{length, getD, take, drop, take-append-drop}
 use lib.Seq.{take-suc, take-all}
 use Rattle.tables.specs.Words.{below}
-use Rattle.tables.specs.Bytes.{byteAt, wordAt}
+use Rattle.tables.specs.Bytes.{byteAt}
+use Rattle.tables.specs.Checks.{checked}
 use Rattle.tables.specs.TermTable.{termCount, termsOf}
 use Rattle.tables.specs.LiteralTable.{equal, different, isEqual, Literal, literalCount, literalRecord, literalOf, literalsOf}
 use Rattle.tables.specs.declared.Side.{Side}
 use Rattle.tables.specs.declared.Side.the-variants.{A, B}
-use Rattle.tables.specs.declared.Tables.{Tables}
-use Rattle.tables.specs.Read.{filled, soundTables}
+use Rattle.tables.specs.declared.Check.the-variants.{Sound}
 use Rattle.tables.proofs.Words.{and-right, passes, length-below, mem-below}
-use Rattle.tables.proofs.Filled.{filled-at, length-map-below, map-below-at}
-use Rattle.tables.proofs.Sound.{sound-literal, sides-within, length-termsOf}
+use Rattle.tables.proofs.Filled.{length-map-below, map-below-at}
+use Rattle.tables.proofs.Sound.{SoundTables, sound, sound-literal, sides-within, length-termsOf}
+use Rattle.reading.specs.Fields.{fieldsOf}
+use Rattle.reading.specs.declared.literal.Fields.{Fields}
 use Rattle.closure.specs.Graph.{Graph, label, joined}
 use Rattle.closure.specs.declared.EdgeKind.the-variants.{Basic as basic}
 use Rattle.closure.specs.Steps.{State, begin, withEdge}
 use Rattle.closure.specs.OwnRun.{basicSteps}
 use Rattle.running.specs.Shown.{Shows}
-use Rattle.running.specs.Opening.{ReadFrom, Opens}
 use Rattle.running.specs.declared.state.State.{State as Arrays}
 use Rattle.closure.proofs.Walking.Invariant.{Forest}
 use Rattle.closure.proofs.Walking.Count.{EndsIn, once-below, fewer-edges}
 use Rattle.running.proofs.Showing.{shown-label}
-use Rattle.running.proofs.Beginning.{sound-tables, read-sound}
 
 -- ---- the steps of a list of literals
 
@@ -80,7 +80,7 @@ bounded-edges n G w h =
 pub mem-take : {x : Literal} (i : ℕ) (ls : List Literal) → List·Memᴰ x (take i ls) → List·Memᴰ x ls
 mem-take {x} i ls m = subst (List·Memᴰ x) (take-append-drop i ls) (Memᴰ·append-left (drop i ls) m)
 
--- ---- the columns of the literal table
+-- ---- the records of the literal table
 
 abbrev pub noLiteral : Literal
 noLiteral = record { side = A; kind = equal; left = 0; right = 0 }
@@ -89,74 +89,50 @@ kind-test : (b : Bool) → b ≡ isEqual (cond b equal different)
 kind-test true = refl
 kind-test false = refl
 
-module _ (t : Tables) (from : ReadFrom t) where
-  abbrev ls : List ℕ
-  ls = from .literals
-
+module _ (bs ls : List ℕ) (passed : checked bs ls ≡ Sound) where
   abbrev pub all : List Literal
   all = literalsOf ls
 
-  pub literals-are : t .literals ≡ literalCount ls
-  unfolding soundTables
-  literals-are = ap (λ (x : Tables). x .literals) (read-sound t from)
+  -- what the checks settle
+  settled : SoundTables bs ls
+  settled = sound bs ls passed
 
-  pub literals-fit : t .literals ≤ 1024
-  literals-fit = omega (arith, literals-are, sound-tables t from .literals-fit)
-
-  pub length-literals : length all ≡ t .literals
+  pub length-literals : length all ≡ literalCount ls
   unfolding literalsOf
-  length-literals = length-map-below (λ k. literalOf (literalRecord ls k)) (literalCount ls) ∙ sym literals-are
+  length-literals = length-map-below (λ k. literalOf (literalRecord ls k)) (literalCount ls)
 
-  literal-is : (k : ℕ) → k < t .literals → getD all k noLiteral ≡ literalOf (literalRecord ls k)
-  unfolding literalsOf
-  literal-is k h = map-below-at (λ j. literalOf (literalRecord ls j)) (literalCount ls) k noLiteral (omega (arith, literals-are))
-
-  -- what stands in a column
-  in-column : (f : ℕ → ℕ) (xs : List ℕ) → xs ≡ filled 1024 0 (literalCount ls) f → (k : ℕ) → k < t .literals → getD xs k 0 ≡ f k
-  in-column f xs e k h =
-      ap (λ (ys : List ℕ). getD ys k 0) e ∙ filled-at f 1024 0 (literalCount ls) k 0 (omega (arith, literals-are)) (sound-tables t from .literals-fit)
-
-  module _ (k : ℕ) (h : k < t .literals) where
+  module _ (k : ℕ) (h : k < literalCount ls) where
     abbrev literal : Literal
     literal = getD all k noLiteral
 
-    pub left-is : getD (t .lefts) k 0 ≡ literal .left
-    unfolding soundTables literalOf
-    left-is = in-column (λ j. wordAt (literalRecord ls j) 2) (t .lefts) (ap (λ (x : Tables). x .lefts) (read-sound t from)) k h ∙ sym (ap (λ (l : Literal). l .left) (literal-is k h))
+    literal-is : literalOf (literalRecord ls k) ≡ literal
+    unfolding literalsOf
+    literal-is = sym (map-below-at (λ j. literalOf (literalRecord ls j)) (literalCount ls) k noLiteral h)
 
-    pub right-is : getD (t .rights) k 0 ≡ literal .right
-    unfolding soundTables literalOf
-    right-is = in-column (λ j. wordAt (literalRecord ls j) 4) (t .rights) (ap (λ (x : Tables). x .rights) (read-sound t from)) k h ∙ sym (ap (λ (l : Literal). l .right) (literal-is k h))
+    -- the fields of the record are the literal's
+    pub left-is : fieldsOf (literalRecord ls k) .left ≡ literal .left
+    unfolding literalOf
+    left-is = ap (λ (l : Literal). l .left) literal-is
 
-    pub side-is : cond (eqb (getD (t .sides) k 0) 1) A B ≡ literal .side
-    unfolding soundTables literalOf
-    side-is =
-        ap (λ (b : ℕ). cond (eqb b 1) A B) (in-column (λ j. byteAt (literalRecord ls j) 0) (t .sides) (ap (λ (x : Tables). x .sides) (read-sound t from)) k h) ∙
-        sym (ap (λ (l : Literal). l .side) (literal-is k h))
+    pub right-is : fieldsOf (literalRecord ls k) .right ≡ literal .right
+    unfolding literalOf
+    right-is = ap (λ (l : Literal). l .right) literal-is
 
-    pub kind-is : eqb (getD (t .kinds) k 0) 1 ≡ isEqual (literal .kind)
-    unfolding soundTables literalOf
-    kind-is =
-        ap (λ (b : ℕ). eqb b 1) (in-column (λ j. byteAt (literalRecord ls j) 1) (t .kinds) (ap (λ (x : Tables). x .kinds) (read-sound t from)) k h) ∙
-        kind-test (eqb (byteAt (literalRecord ls k) 1) 1) ∙
-        sym (ap (λ (l : Literal). isEqual (l .kind)) (literal-is k h))
+    pub side-is : cond (eqb (fieldsOf (literalRecord ls k) .side) 1) A B ≡ literal .side
+    unfolding literalOf
+    side-is = ap (λ (l : Literal). l .side) literal-is
+
+    pub kind-is : eqb (fieldsOf (literalRecord ls k) .kind) 1 ≡ isEqual (literal .kind)
+    unfolding literalOf
+    kind-is = kind-test (eqb (byteAt (literalRecord ls k) 1) 1) ∙ ap (λ (l : Literal). isEqual (l .kind)) literal-is
 
     -- the sides are terms of the table
-    pub left-within : getD (t .lefts) k 0 < termCount (from .terms)
-    unfolding literalOf
-    left-within =
-        subst (λ (v : ℕ). v < termCount (from .terms)) (sym (left-is ∙ ap (λ (l : Literal). l .left) (literal-is k h)))
-        (sound-literal (from .terms) ls (sound-tables t from) k (omega (arith, literals-are)) .left)
-
-    pub right-within : getD (t .rights) k 0 < termCount (from .terms)
-    unfolding literalOf
-    right-within =
-        subst (λ (v : ℕ). v < termCount (from .terms)) (sym (right-is ∙ ap (λ (l : Literal). l .right) (literal-is k h)))
-        (sound-literal (from .terms) ls (sound-tables t from) k (omega (arith, literals-are)) .right)
+    pub sides-in : (fieldsOf (literalRecord ls k) .left < termCount bs) × (fieldsOf (literalRecord ls k) .right < termCount bs)
+    sides-in = (sound-literal bs ls settled k h .left, sound-literal bs ls settled k h .right)
 
     -- and so fit the label array
-    pub sides-small : (getD (t .lefts) k 0 < 256) × (getD (t .rights) k 0 < 256)
-    sides-small = (omega (arith, left-within, sound-tables t from .terms-fit), omega (arith, right-within, sound-tables t from .terms-fit))
+    pub sides-small : (fieldsOf (literalRecord ls k) .left < 256) × (fieldsOf (literalRecord ls k) .right < 256)
+    sides-small = (omega (arith, sides-in .0, settled .terms-fit), omega (arith, sides-in .1, settled .terms-fit))
 
   -- ---- the turns
 
@@ -166,56 +142,64 @@ module _ (t : Tables) (from : ReadFrom t) where
 
   -- the arrays show it
   abbrev pub ShowsAfter : ℕ → Arrays → Type 0
-  ShowsAfter i s = Shows (termsOf (from .terms)) all (after i) s
+  ShowsAfter i s = Shows (termsOf bs) all (after i) s
 
   -- before the first record nothing is done
-  pub after-none : (s : Arrays) → Opens from s → ShowsAfter 0 s
+  pub after-none : (s : Arrays) → Shows (termsOf bs) all begin s → ShowsAfter 0 s
   unfolding basicSteps
   after-none s h = h
 
   -- after the last all steps are taken
-  pub after-all : (i : ℕ) (s : Arrays) → ShowsAfter i s → t .literals ≤ i → Shows (termsOf (from .terms)) all (basicSteps all begin) s
-  after-all i s h l = subst (λ (xs : List Literal). Shows (termsOf (from .terms)) all (basicSteps xs begin) s) (take-all i all (omega (arith, length-literals))) h
+  pub after-all : (i : ℕ) (s : Arrays) → ShowsAfter i s → literalCount ls ≤ i → Shows (termsOf bs) all (basicSteps all begin) s
+  after-all i s h l = subst (λ (xs : List Literal). Shows (termsOf bs) all (basicSteps xs begin) s) (take-all i all (omega (arith, length-literals))) h
 
   -- it has fewer edges than there are terms
-  pub after-edges : (i : ℕ) (s : Arrays) → ShowsAfter i s → i < t .literals → s .graph .count < 256
+  pub after-edges : (i : ℕ) (s : Arrays) → ShowsAfter i s → i < literalCount ls → s .graph .count < 256
   after-edges i s h l =
-      let n = termCount (from .terms) in
+      let n = termCount bs in
       let w = steps-bounded n (take i all) begin
-      (λ l m. let r = sides-within (from .terms) ls (sound-tables t from) l (mem-take i all m) in
-      (omega (arith, r .0, length-termsOf (from .terms)), omega (arith, r .1, length-termsOf (from .terms)))) (tt, tt) in
-      omega (arith, h .count, bounded-edges n (after i .graph) w (omega (arith, left-within i l)), sound-tables t from .terms-fit)
+      (λ l m. let r = sides-within bs ls settled l (mem-take i all m) in
+      (omega (arith, r .0, length-termsOf bs), omega (arith, r .1, length-termsOf bs))) (tt, tt) in
+      omega (arith, h .count, bounded-edges n (after i .graph) w (omega (arith, sides-in i l .0)), settled .terms-fit)
 
-  module _ (i : ℕ) (h : i < t .literals) (s : Arrays) (shows : ShowsAfter i s) where
+  module _ (i : ℕ) (h : i < literalCount ls) (f : Fields) (read : f ≡ fieldsOf (literalRecord ls i)) (s : Arrays) (shows : ShowsAfter i s) where
+    -- the sides that were read
+    left-read : f .left ≡ getD all i noLiteral .left
+    left-read = ap (λ (x : Fields). x .left) read ∙ left-is i h
+
+    right-read : f .right ≡ getD all i noLiteral .right
+    right-read = ap (λ (x : Fields). x .right) read ∙ right-is i h
+
     -- the test that the code makes of a record
     abbrev pub test : Bool
-    test = eqb (getD (t .kinds) i 0) 1 && not (eqb (getD (s .labels) (getD (t .lefts) i 0) 0) (getD (s .labels) (getD (t .rights) i 0) 0))
+    test = eqb (f .kind) 1 && not (eqb (getD (s .labels) (f .left) 0) (getD (s .labels) (f .right) 0))
 
     -- is whether a step is taken
     test-is : test ≡ isEqual (getD all i noLiteral .kind) && not (joined (after i .graph) (getD all i noLiteral .left) (getD all i noLiteral .right))
     unfolding joined
     test-is =
         let G = after i .graph in
-        let at-left : getD (s .labels) (getD (t .lefts) i 0) 0 ≡ label G (getD all i noLiteral .left) =
-        shown-label (termsOf (from .terms)) all (after i) s shows (getD (t .lefts) i 0) (omega (arith, sides-small i h .0)) ∙ ap (label G) (left-is i h) in
-        let at-right : getD (s .labels) (getD (t .rights) i 0) 0 ≡ label G (getD all i noLiteral .right) =
-        shown-label (termsOf (from .terms)) all (after i) s shows (getD (t .rights) i 0) (omega (arith, sides-small i h .1)) ∙ ap (label G) (right-is i h) in
-        ap₂ (λ (x y : Bool). x && y) (kind-is i h) (ap₂ (λ (x y : ℕ). not (eqb x y)) at-left at-right)
+        let small = sides-small i h in
+        let at-left : getD (s .labels) (f .left) 0 ≡ label G (getD all i noLiteral .left) =
+        shown-label (termsOf bs) all (after i) s shows (f .left) (omega (arith, ap (λ (x : Fields). x .left) read, small .0)) ∙ ap (label G) left-read in
+        let at-right : getD (s .labels) (f .right) 0 ≡ label G (getD all i noLiteral .right) =
+        shown-label (termsOf bs) all (after i) s shows (f .right) (omega (arith, ap (λ (x : Fields). x .right) read, small .1)) ∙ ap (label G) right-read in
+        ap₂ (λ (x y : Bool). x && y) (ap (λ (x : Fields). eqb (x .kind) 1) read ∙ kind-is i h) (ap₂ (λ (x y : ℕ). not (eqb x y)) at-left at-right)
 
     -- the state after one record more
     after-more : after (i + 1) ≡ stepBy (getD all i noLiteral) (after i)
     after-more = steps-more all i noLiteral begin (omega (arith, length-literals))
 
     -- a record whose step is taken
-    pub turn-taken : test ≡ true → (side : Side) → side ≡ cond (eqb (getD (t .sides) i 0) 1) A B → (r : Arrays) → ((st : State) → Shows (termsOf (from .terms)) all st s → Shows (termsOf (from .terms)) all (withEdge st (getD (t .lefts) i 0) (getD (t .rights) i 0) side basic) r) → ShowsAfter (i + 1) r
-    turn-taken e side q r f =
+    pub turn-taken : test ≡ true → (side : Side) → side ≡ cond (eqb (f .side) 1) A B → (r : Arrays) → ((st : State) → Shows (termsOf bs) all st s → Shows (termsOf bs) all (withEdge st (f .left) (f .right) side basic) r) → ShowsAfter (i + 1) r
+    turn-taken e side q r g =
         let l = getD all i noLiteral in
         let taken : stepBy l (after i) ≡ withEdge (after i) (l .left) (l .right) (l .side) basic =
         ap (λ (b : Bool). cond b (withEdge (after i) (l .left) (l .right) (l .side) basic) (after i)) (sym test-is ∙ e) in
-        let sides : side ≡ l .side = q ∙ side-is i h in
-        let same : withEdge (after i) (getD (t .lefts) i 0) (getD (t .rights) i 0) side basic ≡ withEdge (after i) (l .left) (l .right) (l .side) basic =
-        λ j. withEdge (after i) (left-is i h j) (right-is i h j) (sides j) basic in
-        subst (λ (st : State). Shows (termsOf (from .terms)) all st r) (same ∙ sym taken ∙ sym after-more) (f (after i) shows)
+        let sides : side ≡ l .side = q ∙ ap (λ (x : Fields). cond (eqb (x .side) 1) A B) read ∙ side-is i h in
+        let same : withEdge (after i) (f .left) (f .right) side basic ≡ withEdge (after i) (l .left) (l .right) (l .side) basic =
+        λ j. withEdge (after i) (left-read j) (right-read j) (sides j) basic in
+        subst (λ (st : State). Shows (termsOf bs) all st r) (same ∙ sym taken ∙ sym after-more) (g (after i) shows)
 
     -- a record that is skipped
     pub turn-left : test ≡ false → ShowsAfter (i + 1) s
@@ -223,4 +207,4 @@ module _ (t : Tables) (from : ReadFrom t) where
         let l = getD all i noLiteral in
         let left : stepBy l (after i) ≡ after i =
         ap (λ (b : Bool). cond b (withEdge (after i) (l .left) (l .right) (l .side) basic) (after i)) (sym test-is ∙ e) in
-        subst (λ (st : State). Shows (termsOf (from .terms)) all st s) (sym left ∙ sym after-more) shows
+        subst (λ (st : State). Shows (termsOf bs) all st s) (sym left ∙ sym after-more) shows

@@ -13,7 +13,7 @@ use Rattle.tables.specs.Terms.{Term, termAt}
 use Rattle.tables.specs.TermTable.{termCount, termRecord, symbolField, arityField, argumentField, rowOf, termOf, termsOf}
 use Rattle.tables.specs.LiteralTable.{literalsOf}
 use Rattle.tables.specs.Colours.{inUse}
-use Rattle.tables.specs.Checks.{numberOf}
+use Rattle.tables.specs.Checks.{checked, numberOf}
 use Rattle.tables.specs.Read.{filled, colourNumber, argumentRows, soundTables, refusedTables, tablesRead}
 use Rattle.tables.specs.declared.Check.{Check}
 use Rattle.tables.specs.declared.Check.the-variants.{Sound}
@@ -69,6 +69,11 @@ unfolding tablesRead numberOf
 read-sound t from =
     from .read ∙
     ap (λ (c : Check). cond (eqb (numberOf c) 0) (soundTables c (from .terms) (from .literals)) (refusedTables c)) (from .sound)
+
+-- so they are from the same terms and the literals that are lent
+abbrev pub lent : {t : Tables} (from : ReadFrom t) (ls : List ℕ) → from .literals ≡ ls → ReadFrom t
+lent from ls e =
+    record { terms = from .terms; literals = ls; read = from .read ∙ ap (tablesRead (from .terms)) e; sound = ap (checked (from .terms)) (sym e) ∙ from .sound }
 
 -- ---- the arrays once they are filled
 

@@ -22,8 +22,3 @@ pub record ReadFrom (t : Tables) : Type 0 where
 -- the arrays show the state before the first step
 abbrev pub Opens : {t : Tables} → ReadFrom t → Arrays → Type 0
 Opens from s = Shows (termsOf (from .terms)) (literalsOf (from .literals)) begin s
-
--- the tables read, with the columns of the literals that are lent
-abbrev pub withLiterals : Tables → ℕ → List ℕ → List ℕ → List ℕ → List ℕ → Tables
-withLiterals t literals sides kinds lefts rights =
-    record { check = t .check; terms = t .terms; literals = literals; symbols = t .symbols; arities = t .arities; used = t .used; colours = t .colours; sides = sides; kinds = kinds; lefts = lefts; rights = rights }

@@ -11,20 +11,25 @@ use super::step::Colouring;
 use closure::EdgeKind;
 use graphs::graph::Graph;
 use graphs::labels;
+use reading::literal;
 use tables::Side;
 use tables::Tables;
 ghost use mathlib.Core.Bool.{cond};
+ghost use mathlib.Core.List.{List};
 ghost use mathlib.Core.Path.{_≡_};
+ghost use Prim.Native.Nat.{ℕ};
 ghost use lib.Dec.{eqb};
 ghost use lib.ListN.{length};
+ghost use Rattle.tables.specs.Checks.{checked};
 ghost use Rattle.tables.specs.TermTable.{termsOf};
 ghost use Rattle.tables.specs.LiteralTable.{literalsOf};
 ghost use Rattle.tables.specs.Read.{argumentRows};
 ghost use Rattle.closure.specs.Steps.{begin as noSteps};
 ghost use Rattle.closure.specs.OwnRun.{basicSteps, firstPair, derivedStep, turnsAt};
+ghost use Rattle.tables.specs.declared.Check.the-variants.{Sound};
 ghost use Rattle.tables.specs.declared.Tables.{Tables as Read};
 ghost use Rattle.running.specs.Shown.{Shows, regraphed};
-ghost use Rattle.running.specs.Opening.{ReadFrom, Opens, withLiterals};
+ghost use Rattle.running.specs.Opening.{ReadFrom, Opens};
 ghost use Rattle.running.specs.Stepping.{OnRun, Outcome, Ends};
 ghost use Rattle.running.specs.declared.state.State.{State as Arrays};
 
@@ -35,26 +40,20 @@ fn side_of(b: u8) -> Side
     if b == 1 { Side::A } else { Side::B }
 }
 
-// "all basic steps by record number, skipping joined sides"
-fn basic_steps<'a>(
-    labels: &mut [u16; 511],
-    graph: Graph,
-    count: usize,
-    sides: &'a [u8; 1024],
-    kinds: &'a [u8; 1024],
-    lefts: &'a [u16; 1024],
-    rights: &'a [u16; 1024],
-) -> Graph
-    requires { ⌜ ((t : Read) × (from : ReadFrom (withLiterals t count (now sides) (now kinds) (now lefts) (now rights))) × (s : Arrays) × Opens from (regraphed s graph (now labels))) ⌝ }
-    ensures { λ r. ⌜ ((t : Read) (from : ReadFrom (withLiterals t count (now (sides .entry)) (now (kinds .entry)) (now (lefts .entry)) (now (rights .entry)))) (s : Arrays) → Opens from (regraphed s graph (now (labels .entry))) → Shows (termsOf (from .terms)) (literalsOf (from .literals)) (basicSteps (literalsOf (from .literals)) noSteps) (regraphed s r (now (labels .exit)))) ⌝ }
+// "all basic steps by record number, skipping joined sides": the records are lent as their bytes.
+fn basic_steps(labels: &mut [u16; 511], graph: Graph, literals: &[u8]) -> Graph
+    requires { ⌜ ((bs : List ℕ) × (checked bs (now literals) ≡ Sound) × (s : Arrays) × Shows (termsOf bs) (literalsOf (now literals)) noSteps (regraphed s graph (now labels))) ⌝ }
+    ensures { λ r. ⌜ ((bs : List ℕ) → checked bs (now (literals .entry)) ≡ Sound → (s : Arrays) → Shows (termsOf bs) (literalsOf (now (literals .entry))) noSteps (regraphed s graph (now (labels .entry))) → Shows (termsOf bs) (literalsOf (now (literals .entry))) (basicSteps (literalsOf (now (literals .entry))) noSteps) (regraphed s r (now (labels .exit)))) ⌝ }
 {
+    let count = literals.len() / 8;
     let mut grown = graph;
     let mut i = 0;
     while i < count {
-        let left = lefts[i] as usize;
-        let right = rights[i] as usize;
-        if (kinds[i] == 1) & (labels[left] != labels[right]) {
-            let side = side_of(sides[i]);
+        let l = literal::read_at(literals, i);
+        let left = l.left as usize;
+        let right = l.right as usize;
+        if (l.kind == 1) & (labels[left] != labels[right]) {
+            let side = side_of(l.side);
             grown = joined_on(labels, grown, left, right, side, EdgeKind::Basic);
         }
         i += 1;
@@ -102,9 +101,9 @@ fn derived_steps(start: State, n: usize) -> Stepped
 
 // The run from its first step, in the state of the given terms and no edge, to its last. That state is laid out here and not by a function of its own,
 // since it would be copied on its way back.
-pub fn own_run(t: Tables, given: [[u16; 4]; 256]) -> Stepped
-    requires { ⌜ ((from : ReadFrom t) × (given ≡ argumentRows (from .terms))) ⌝ }
-    ensures { λ r. ⌜ ((from : ReadFrom t) → given ≡ argumentRows (from .terms) → Ends (termsOf (from .terms)) (literalsOf (from .literals)) r) ⌝ }
+pub fn own_run(t: Tables, given: [[u16; 4]; 256], literals: &[u8]) -> Stepped
+    requires { ⌜ ((from : ReadFrom t) × (given ≡ argumentRows (from .terms)) × (from .literals ≡ now literals)) ⌝ }
+    ensures { λ r. ⌜ ((from : ReadFrom t) → given ≡ argumentRows (from .terms) → from .literals ≡ now (literals .entry) → Ends (termsOf (from .terms)) (literalsOf (from .literals)) r) ⌝ }
 {
     let terms = t.terms;
     let none = Row { args: [0u16; 4] };
@@ -129,15 +128,7 @@ pub fn own_run(t: Tables, given: [[u16; 4]; 256]) -> Stepped
         i += 1;
     }
     let graph = st.graph;
-    let basic = basic_steps(
-        &mut st.labels,
-        graph,
-        t.literals,
-        &t.sides,
-        &t.kinds,
-        &t.lefts,
-        &t.rights,
-    );
+    let basic = basic_steps(&mut st.labels, graph, literals);
     st.graph = basic;
     derived_steps(st, terms)
 }

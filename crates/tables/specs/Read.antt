@@ -1,14 +1,13 @@
--- What the layers above work on: the tables read into arrays. Past the counts an array holds 0, or false.
+-- What the layers above work on: the terms read into arrays, with what the literals say of them. Past the count an array holds 0, or false.
 use mathlib.Core.Bool.{false, cond}
 use mathlib.Core.List.{List, [], _∷_, _++_, map}
 use Prim.Native.Nat.{ℕ, _+_, _-_, min}
 use lib.Dec.{eqb}
 use lib.ListN.{replicate}
 use Rattle.tables.specs.Words.{below}
-use Rattle.tables.specs.Bytes.{byteAt, wordAt}
 use Rattle.tables.specs.Terms.{Term}
 use Rattle.tables.specs.TermTable.{termCount, termRecord, symbolField, arityField, rowOf, termsOf}
-use Rattle.tables.specs.LiteralTable.{A, B, Literal, literalCount, literalRecord, literalsOf}
+use Rattle.tables.specs.LiteralTable.{A, B, Literal, literalsOf}
 use Rattle.tables.specs.Colours.{inUse, colourable}
 use Rattle.tables.specs.Checks.{checked, numberOf}
 use Rattle.tables.specs.declared.Check.{Check}
@@ -32,19 +31,13 @@ unfoldable pub soundTables : Check → List ℕ → List ℕ → Tables
 unfolding filled colourNumber
 soundTables check bs ls =
     let n = termCount bs in
-    let m = literalCount ls in
     record {
       check = check;
       terms = n;
-      literals = m;
       symbols = filled 256 0 n (λ k. symbolField (termRecord bs k));
       arities = filled 256 0 n (λ k. arityField (termRecord bs k));
       used = filled 256 false n (inUse (termsOf bs) (literalsOf ls));
       colours = filled 256 0 n (colourNumber (termsOf bs) (literalsOf ls) (termsOf bs));
-      sides = filled 1024 0 m (λ k. byteAt (literalRecord ls k) 0);
-      kinds = filled 1024 0 m (λ k. byteAt (literalRecord ls k) 1);
-      lefts = filled 1024 0 m (λ k. wordAt (literalRecord ls k) 2);
-      rights = filled 1024 0 m (λ k. wordAt (literalRecord ls k) 4);
     }
 
 -- the tables where a row refuses them
@@ -53,15 +46,10 @@ refusedTables check =
     record {
       check = check;
       terms = 0;
-      literals = 0;
       symbols = replicate 256 0;
       arities = replicate 256 0;
       used = replicate 256 false;
       colours = replicate 256 0;
-      sides = replicate 1024 0;
-      kinds = replicate 1024 0;
-      lefts = replicate 1024 0;
-      rights = replicate 1024 0;
     }
 
 -- any two byte strings, read

@@ -23,18 +23,14 @@ pub enum Found {
     Nothing,
 }
 
-// The tables as they were read; where they are refused, only the check says something and all else is 0. Past the counts the arrays
-// hold 0. The arguments stand beside this struct, as an array of rows of four.
+// The tables as they were read; where they are refused, only the check says something and all else is 0. Past the count the arrays
+// hold 0. The arguments stand beside this struct, as an array of rows of four; the literals stay in their bytes, where each layer
+// reads them.
 pub struct Tables {
     pub check: Check,
     pub terms: usize,
-    pub literals: usize,
     pub symbols: [u16; 256],
     pub arities: [u8; 256],
     pub used: [bool; 256],
     pub colours: [u8; 256],
-    pub sides: [u8; 1024],
-    pub kinds: [u8; 1024],
-    pub lefts: [u16; 1024],
-    pub rights: [u16; 1024],
 }

@@ -64,12 +64,12 @@ rows-requires : tie.Need-rows-requires
 rows-requires c κs = search needs
 
 own-run-requires : tie.Need-own-run-requires
-own-run-requires c κs = (from-read _ _ _ (c .before .before .before .read .ensures) (c .before .enum-told .given .1), c .rows .ensures)
+own-run-requires c κs = (from-read _ _ _ (c .before .before .before .read .ensures) (c .before .enum-told .given .1), c .rows .ensures, refl)
 
 ended-requires : tie.Need-ended-requires
 ended-requires c κs =
     let from = from-read _ _ _ (c .before .before .before .before .before .before .before .read .ensures) (c .before .before .before .before .before .enum-told .given .1) in
-    (from, c .before .before .before .own-run .ensures from (c .before .before .before .before .rows .ensures))
+    (from, c .before .before .before .own-run .ensures from (c .before .before .before .before .rows .ensures) refl, refl)
 
 same-length : tie.Need-same-length
 same-length c = search needs
@@ -83,7 +83,7 @@ same-length-3 c = search needs
 returns-2 : tie.Need-returns-2
 returns-2 c =
     let from = from-read _ _ _ (c .before .before .before .before .before .before .before .before .before .before .before .before .before .before .read .ensures) (c .before .before .before .before .before .before .before .before .before .before .before .before .enum-told .given .1) in
-    c .before .before .before .before .before .before .ended .ensures from (c .before .before .before .before .before .before .before .before .before .before .own-run .ensures from (c .before .before .before .before .before .before .before .before .before .before .before .rows .ensures)) ∙ sym (judged-ended _ _ _ (from .sound))
+    c .before .before .before .before .before .before .ended .ensures from (c .before .before .before .before .before .before .before .before .before .before .own-run .ensures from (c .before .before .before .before .before .before .before .before .before .before .before .rows .ensures) refl) refl ∙ sym (judged-ended _ _ _ (from .sound))
 
 pub split-spec : {M : Type 1} → statement M
 split-spec =

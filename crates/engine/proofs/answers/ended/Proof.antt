@@ -15,8 +15,8 @@ use Rattle.running.specs.Stepping.{Ends as RunEnds}
 use Rattle.running.specs.declared.state.Stepped.{Stepped}
 use Rattle.demands.specs.Call.{consistent, verdict, ended}
 use Rattle.engine.specs.Ending.{Ends, termsIn, literalsIn}
-use Rattle.running.proofs.Beginning.{terms-fit}
-use Rattle.running.proofs.BasicSteps.{literals-fit, sides-small}
+use Rattle.running.proofs.Beginning.{lent, terms-fit}
+use Rattle.running.proofs.BasicSteps.{sides-small}
 use Rattle.engine.proofs.Searches.{met-first, classes-are}
 use borrow.Author.Needs.{needs}
 use Rattle.engine.proofs.answers.ended.Statement.{statement}
@@ -36,26 +36,26 @@ module _ (t : Tables) (end : Stepped) (from : ReadFrom t) (outcome : RunEnds (te
 
 returns : tie.Need-returns
 unfolding ended
-returns c from outcome = sym (ap (ended _ (termsIn from) (literalsIn from)) (stuck-none _ _ from outcome (c .if1 .taken)))
+returns c from outcome e = sym (ap (ended _ (termsIn from) (literalsIn from)) (stuck-none _ _ from outcome (c .if1 .taken)))
 
 critical-requires : tie.Need-critical-requires
 critical-requires c κs =
-    let from = c .before .before .before .before .before .before .before .before .before .before .before .pre .0 in
-    (literals-fit _ from, λ i h. let small = sides-small _ from i h in (omega (arith, small .0), omega (arith, small .1)))
+    let from = lent (c .before .before .before .before .before .before .before .before .pre .0) _ (c .before .before .before .before .before .before .before .before .pre .2) in
+    λ i h. let small = sides-small _ _ (from .sound) i h in (omega (arith, small .0), omega (arith, small .1))
 
 enum-known-found : tie.Need-enum-known-found
 enum-known-found c = search needs
 
 inconsistent-requires : tie.Need-inconsistent-requires
 inconsistent-requires c κs =
-    let w = ends-of _ (c .before .before .before .before .before .before .before .before .before .before .before .before .before .before .before .before .before .args .end) (c .before .before .before .before .before .before .before .before .before .before .before .before .before .before .before .before .before .pre .0) (c .before .before .before .before .before .before .before .before .before .before .before .before .before .before .before .before .before .pre .1) (c .before .before .before .before .before .before .before .before .before .before .before .before .before .if1 .left) in
-    record { ends = w; found = sym (c .before .before .before .before .before .critical .ensures ∙ met-first _ _ w) ∙ ap foundOf (c .before .before .before .found .given .1) }
+    let w = ends-of _ (c .before .before .before .before .before .before .before .before .before .before .before .before .before .before .args .end) (c .before .before .before .before .before .before .before .before .before .before .before .before .before .before .pre .0) (c .before .before .before .before .before .before .before .before .before .before .before .before .before .before .pre .1) (c .before .before .before .before .before .before .before .before .before .if1 .left) in
+    (record { ends = w; found = sym (c .before .before .before .before .before .critical .ensures ∙ met-first _ _ w _ (c .before .before .before .before .before .before .before .before .before .before .before .before .before .before .pre .2)) ∙ ap foundOf (c .before .before .before .found .given .1) }, c .before .before .before .before .before .before .before .before .before .before .before .before .before .before .pre .2)
 
 enum-told : tie.Need-enum-told
 enum-told c = search needs
 
 consistent-requires : tie.Need-consistent-requires
-consistent-requires c κs = terms-fit _ (c .before .before .before .before .before .before .before .before .before .before .before .before .before .before .before .before .before .before .before .pre .0)
+consistent-requires c κs = terms-fit _ (c .before .before .before .before .before .before .before .before .before .before .before .before .before .before .before .before .pre .0)
 
 same-length : tie.Need-same-length
 same-length c = search needs
@@ -65,10 +65,10 @@ same-length-2 c = search needs
 
 returns-2 : tie.Need-returns-2
 unfolding ended verdict
-returns-2 c from outcome =
-    let w = ends-of _ (c .before .before .before .before .before .before .before .before .before .before .before .before .before .before .before .before .before .before .before .before .before .before .args .end) from outcome (c .before .before .before .before .before .before .before .before .before .before .before .before .before .before .before .before .before .before .if1 .left) in
-    let decided = sym (c .before .before .before .before .before .before .before .before .before .before .critical .ensures ∙ met-first _ _ w) ∙ ap foundOf (c .before .before .before .before .before .before .before .before .found .given .1) in
-    c .before .before .before .before .inconsistent .ensures (record { ends = w; found = decided }) _ ∙
+returns-2 c from outcome e =
+    let w = ends-of _ (c .before .before .before .before .before .before .before .before .before .before .before .before .before .before .before .before .before .before .before .args .end) from outcome (c .before .before .before .before .before .before .before .before .before .before .before .before .before .before .if1 .left) in
+    let decided = sym (c .before .before .before .before .before .before .before .before .before .before .critical .ensures ∙ met-first _ _ w _ e) ∙ ap foundOf (c .before .before .before .before .before .before .before .before .found .given .1) in
+    c .before .before .before .before .inconsistent .ensures (record { ends = w; found = decided }) e _ ∙
     sym (ap (verdict _ (termsIn from) (literalsIn from) (w .state)) decided) ∙
     sym (ap (ended _ (termsIn from) (literalsIn from)) (w .last))
 
@@ -77,10 +77,10 @@ same-length-3 c = search needs
 
 returns-3 : tie.Need-returns-3
 unfolding ended verdict
-returns-3 c from outcome =
-    let w = ends-of _ (c .before .before .before .before .before .before .before .before .before .before .before .before .before .before .before .before .before .before .before .before .before .before .args .end) from outcome (c .before .before .before .before .before .before .before .before .before .before .before .before .before .before .before .before .before .before .if1 .left) in
-    let none-met = sym (c .before .before .before .before .before .before .before .before .before .before .critical .ensures ∙ met-first _ _ w) ∙ ap foundOf (c .before .before .before .before .before .before .before .before .enum-told .given .1) in
-    let a = c .before .before .before .before .before .before .before .before .before .before .before .before .before .before .before .before .before .before .before .before .before .before .args in
+returns-3 c from outcome e =
+    let a = c .before .before .before .before .before .before .before .before .before .before .before .before .before .before .before .before .before .before .before .args in
+    let w = ends-of _ (a .end) from outcome (c .before .before .before .before .before .before .before .before .before .before .before .before .before .before .if1 .left) in
+    let none-met = sym (c .before .before .before .before .before .before .before .before .before .before .critical .ensures ∙ met-first _ _ w _ e) ∙ ap foundOf (c .before .before .before .before .before .before .before .before .enum-told .given .1) in
     c .before .before .consistent .ensures (a .added .now) (a .clauses .now) ∙
     ap (consistent (record { partition = a .partition .now; added = a .added .now; clauses = a .clauses .now })) (classes-are _ _ w) ∙
     sym (ap (verdict _ (termsIn from) (literalsIn from) (w .state)) none-met) ∙

@@ -1,33 +1,26 @@
 -- `sound` meets its contract: the arrays hold the columns of sound tables, so the marks and colours are those of the definitions.
 use borrow.Author.Needs.{needs}
 use Rattle.tables.specs.TermTable.{termCount}
-use Rattle.tables.specs.LiteralTable.{literalCount}
 use Rattle.tables.specs.Read.{soundTables}
 use Rattle.tables.specs.declared.Check.the-variants.{Sound}
 use Rattle.tables.proofs.Sound.{sound}
-use Rattle.reading.proofs.Columns.{Columns, columns-lower, columns-within, columns-used, columns-colours}
+use Rattle.reading.proofs.Columns.{Columns, literals-within, columns-lower, columns-used, columns-colours}
 use Rattle.reading.proofs.arrays.sound.Statement.{statement}
 use Rattle.reading.proofs.arrays.sound.Tie as tie
 
--- the arrays that were read, up to the right sides, hold the columns
-abbrev known : tie.After-literal-words2 → Columns
+-- the arrays that were read hold the columns
+abbrev known : tie.After-rows → Columns
 known c =
     record {
-      bs = c .before .before .before .before .before .before .before .before .before .args .terms .now;
-      ls = c .before .before .before .before .before .before .before .before .before .args .literals .now;
-      symbols = c .before .before .before .before .before .before .term-words .result;
-      arities = c .before .before .before .before .before .term-bytes .result;
-      rows = c .before .before .before .before .rows .result;
-      sides = c .before .before .before .literal-bytes .result;
-      lefts = c .before .literal-words .result;
-      rights = c .literal-words2 .result;
-      tables = sound (c .before .before .before .before .before .before .before .before .before .args .terms .now) (c .before .before .before .before .before .before .before .before .before .args .literals .now) (c .before .before .before .before .before .before .before .before .before .pre);
-      symbols-read = c .before .before .before .before .before .before .term-words .ensures;
-      arities-read = c .before .before .before .before .before .term-bytes .ensures;
-      rows-read = c .before .before .before .before .rows .ensures;
-      sides-read = c .before .before .before .literal-bytes .ensures;
-      lefts-read = c .before .literal-words .ensures;
-      rights-read = c .literal-words2 .ensures;
+      bs = c .before .before .before .before .before .args .terms .now;
+      ls = c .before .before .before .before .before .args .literals .now;
+      symbols = c .before .before .term-words .result;
+      arities = c .before .term-bytes .result;
+      rows = c .rows .result;
+      tables = sound (c .before .before .before .before .before .args .terms .now) (c .before .before .before .before .before .args .literals .now) (c .before .before .before .before .before .pre);
+      symbols-read = c .before .before .term-words .ensures;
+      arities-read = c .before .term-bytes .ensures;
+      rows-read = c .rows .ensures;
     }
 
 term-words-requires : tie.Need-term-words-requires
@@ -39,41 +32,29 @@ term-bytes-requires c κs = search needs
 rows-requires : tie.Need-rows-requires
 rows-requires c κs = search needs
 
-literal-bytes-requires : tie.Need-literal-bytes-requires
-literal-bytes-requires c κs = search needs
-
-literal-bytes-requires-2 : tie.Need-literal-bytes-requires-2
-literal-bytes-requires-2 c κs = search needs
-
-literal-words-requires : tie.Need-literal-words-requires
-literal-words-requires c κs = search needs
-
-literal-words-requires-2 : tie.Need-literal-words-requires-2
-literal-words-requires-2 c κs = search needs
-
 inside-requires : tie.Need-inside-requires
-inside-requires c κs = (columns-lower (known (c .before .before .before .before .before)), columns-within (known (c .before .before .before .before .before)))
+inside-requires c κs = let k = known (c .before .before) in (columns-lower k, literals-within (k .bs) (k .ls) (k .tables))
 
 inside-requires-2 : tie.Need-inside-requires-2
-inside-requires-2 c κs = (columns-lower (known (c .before .before .before .before .before .before .before .before .before .before .before)), columns-within (known (c .before .before .before .before .before .before .before .before .before .before .before)))
+inside-requires-2 c κs = let k = known (c .before .before .before .before .before) in (columns-lower k, literals-within (k .bs) (k .ls) (k .tables))
 
 in-use-requires : tie.Need-in-use-requires
-in-use-requires c κs = known (c .before .before .before .before .before .before .before .before .before .before .before .before .before .before) .tables .terms-fit
+in-use-requires c κs = known (c .before .before .before .before .before .before .before .before) .tables .terms-fit
 
 occurring-requires : tie.Need-occurring-requires
-occurring-requires c κs = known (c .before .before .before .before .before .before .before .before .before .before .before .before .before .before .before .before .before) .tables .terms-fit
+occurring-requires c κs = known (c .before .before .before .before .before .before .before .before .before .before .before) .tables .terms-fit
 
 occurring-requires-2 : tie.Need-occurring-requires-2
-occurring-requires-2 c κs = known (c .before .before .before .before .before .before .before .before .before .before .before .before .before .before .before .before .before .before .before .before) .tables .terms-fit
+occurring-requires-2 c κs = known (c .before .before .before .before .before .before .before .before .before .before .before .before .before .before) .tables .terms-fit
 
 colours-requires : tie.Need-colours-requires
-colours-requires c κs = (columns-lower (known (c .before .before .before .before .before .before .before .before .before .before .before .before .before .before .before .before .before .before .before .before .before .before .before .before .before)), known (c .before .before .before .before .before .before .before .before .before .before .before .before .before .before .before .before .before .before .before .before .before .before .before .before .before) .tables .terms-fit)
+colours-requires c κs = let k = known (c .before .before .before .before .before .before .before .before .before .before .before .before .before .before .before .before .before .before .before) in (columns-lower k, k .tables .terms-fit)
 
 returns : tie.Need-returns
 unfolding soundTables
 returns c =
-    let k = known (c .before .before .before .before .before .before .before .before .before .before .before .before .before .before .before .before .before .before .before .before .before .before .before .before .before .before) in
-    let a = c .before .before .before .before .before .before .before .before .before .before .before .before .before .before .before .before .before .before .before .before .inside in
+    let k = known (c .before .before .before .before .before .before .before .before .before .before .before .before .before .before .before .before .before .before .before .before) in
+    let a = c .before .before .before .before .before .before .before .before .before .before .before .before .before .before .before .before .before .inside in
     let b = c .before .before .before .before .before .before .before .before .before .before .before .before .before .before .inside2 in
     let in-use = c .before .before .before .before .before .before .before .before .before .before .before .in-use in
     let in-a = c .before .before .before .before .before .before .before .before .occurring in
@@ -84,15 +65,10 @@ returns c =
     record {
       check = Sound;
       terms = termCount (k .bs);
-      literals = literalCount (k .ls);
       symbols = k .symbols-read i;
       arities = k .arities-read i;
       used = used i;
       colours = colours i;
-      sides = k .sides-read i;
-      kinds = c .before .before .before .before .before .before .before .before .before .before .before .before .before .before .before .before .before .before .before .before .before .before .before .before .before .before .before .before .literal-bytes2 .ensures i;
-      lefts = k .lefts-read i;
-      rights = k .rights-read i;
     }
 
 pub sound-spec : {M : Type 1} → statement M
@@ -102,10 +78,6 @@ sound-spec =
     term-words-requires
     term-bytes-requires
     rows-requires
-    literal-bytes-requires
-    literal-bytes-requires-2
-    literal-words-requires
-    literal-words-requires-2
     inside-requires
     inside-requires-2
     in-use-requires

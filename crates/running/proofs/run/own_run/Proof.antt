@@ -1,23 +1,26 @@
 -- `running::run::own_run` meets its contract: the state before the first step, the basic steps, and the turns. The invariant of the loop that lays that
 -- state out: the places passed are copied. The measure is what is left of them.
 use mathlib.Core.Bool.{false}
-use mathlib.Core.List.{[], _∷_}
-use mathlib.Core.Path.{_≡_, refl}
-use Prim.Native.Nat.{_-_}
+use mathlib.Core.List.{List, [], _∷_}
+use mathlib.Core.Path.{_≡_, refl, sym, subst}
+use Prim.Native.Nat.{ℕ, _-_}
 use native.Mathlib.Omega.{arith}
+use Rattle.tables.specs.TermTable.{termsOf}
+use Rattle.tables.specs.LiteralTable.{literalsOf}
 use Rattle.tables.specs.Read.{argumentRows}
 use Rattle.tables.proofs.Records.{filling-none, filling-more}
 use Rattle.running.specs.Opening.{ReadFrom, Opens}
-use Rattle.running.proofs.Beginning.{Copied, terms-fit, opens}
+use Rattle.running.specs.Stepping.{Ends}
+use Rattle.running.proofs.Beginning.{Copied, terms-fit, opens, lent}
 use Rattle.running.proofs.OwnTurns.{after-basic, turns-given, ends}
 use Rattle.running.proofs.run.own_run.Statement.{statement}
 use Rattle.running.proofs.run.own_run.Tie as tie
 
 abbrev Inv-loop : tie.InvT-loop
-Inv-loop t given terms st₀ i₀ st i = Copied t given terms i st
+Inv-loop literals t given terms st₀ i₀ st i = Copied t given terms i st
 
 abbrev μ-loop : tie.MeasureT-loop
-μ-loop t given terms st₀ i₀ st i = terms - i
+μ-loop literals t given terms st₀ i₀ st i = terms - i
 
 empty-requires : tie.Need-empty-requires Inv-loop μ-loop
 empty-requires c κs = tt
@@ -27,9 +30,9 @@ own-labels-requires c κs = tt
 
 loop-holds : tie.Need-loop-holds Inv-loop μ-loop
 loop-holds c =
-    let n = c .before .before .args .t1 .terms in
+    let n = c .before .before .before .args .t1 .terms in
     record {
-      fits = terms-fit (c .before .before .args .t1) (c .before .before .pre .0);
+      fits = terms-fit (c .before .before .before .args .t1) (c .before .before .before .pre .0);
       terms = refl;
       symbols = filling-none 511 0 _ n;
       arities = filling-none 511 0 _ n;
@@ -65,8 +68,8 @@ mul-args c = omega arith
 array-copy-out-args : tie.Need-array-copy-out-args Inv-loop μ-loop
 array-copy-out-args c = omega arith
 
-mul-t25 : tie.Need-mul-t25 Inv-loop μ-loop
-mul-t25 c = omega arith
+mul-t26 : tie.Need-mul-t26 Inv-loop μ-loop
+mul-t26 c = omega arith
 
 element-set-from-st : tie.Need-element-set-from-st Inv-loop μ-loop
 element-set-from-st c = omega arith
@@ -107,23 +110,29 @@ loop-again c =
     }
 
 -- the state laid out is the one before the first step
-opened : (c : tie.After-loop Inv-loop μ-loop) (from : ReadFrom (c .before .before .before .before .args .t1)) → c .before .before .before .before .args .t2 ≡ argumentRows (from .terms) → Opens from (c .before .loop .st)
-opened c from e = opens (c .before .before .before .before .args .t1) from (c .before .before .before .before .args .t2) _ _ _ refl (c .loop-test .left) (c .before .loop .inv) e
+opened : (c : tie.After-loop Inv-loop μ-loop) (from : ReadFrom (c .before .before .before .before .before .args .t1)) → c .before .before .before .before .before .args .t2 ≡ argumentRows (from .terms) → Opens from (c .before .loop .st)
+opened c from e = opens (c .before .before .before .before .before .args .t1) from (c .before .before .before .before .before .args .t2) _ _ _ refl (c .loop-test .left) (c .before .loop .inv) e
 
 basic-steps-requires : tie.Need-basic-steps-requires Inv-loop μ-loop
-basic-steps-requires c κs = (c .before .before .before .before .before .before .before .before .before .before .before .args .t1, c .before .before .before .before .before .before .before .before .before .before .before .pre .0, c .before .before .before .before .before .before .before .before .loop .st, opened (c .before .before .before .before .before .before .before) (c .before .before .before .before .before .before .before .before .before .before .before .pre .0) (c .before .before .before .before .before .before .before .before .before .before .before .pre .1))
+basic-steps-requires c κs =
+    let pre = c .before .before .before .before .before .before .before .pre in
+    let from = lent (pre .0) _ (pre .2) in
+    (from .terms, from .sound, c .before .before .before .loop .st, opened (c .before .before) from (pre .1))
 
 derived-steps-requires : tie.Need-derived-steps-requires Inv-loop μ-loop
 derived-steps-requires c κs =
-    let t = c .before .before .before .before .before .before .before .before .before .before .before .before .args .t1 in
-    let from = c .before .before .before .before .before .before .before .before .before .before .before .before .pre .0 in
-    let shows = c .basic-steps .ensures t from (c .before .before .before .before .before .before .before .before .before .loop .st) (opened (c .before .before .before .before .before .before .before .before) from (c .before .before .before .before .before .before .before .before .before .before .before .before .pre .1)) in
+    let t = c .before .before .before .before .before .before .before .before .args .t1 in
+    let pre = c .before .before .before .before .before .before .before .before .pre in
+    let from = lent (pre .0) _ (pre .2) in
+    let shows = c .basic-steps .ensures (from .terms) (from .sound) (c .before .before .before .before .loop .st) (opened (c .before .before .before) from (pre .1)) in
     (after-basic t from _ shows, turns-given t from _ shows)
 
 returns : tie.Need-returns Inv-loop μ-loop
-returns c from e =
-    let t = c .before .before .before .before .before .before .before .before .before .before .before .before .before .args .t1 in
-    ends t from _ (c .before .basic-steps .ensures t from (c .before .before .before .before .before .before .before .before .before .before .loop .st) (opened (c .before .before .before .before .before .before .before .before .before) from e)) _ (c .derived-steps .ensures)
+returns c read e same =
+    let t = c .before .before .before .before .before .before .before .before .before .args .t1 in
+    let from = lent read _ same in
+    subst (λ (ls : List ℕ). Ends (termsOf (read .terms)) (literalsOf ls) (c .derived-steps .result)) (sym same)
+    (ends t from _ (c .before .basic-steps .ensures (from .terms) (from .sound) (c .before .before .before .before .before .loop .st) (opened (c .before .before .before .before) from e)) _ (c .derived-steps .ensures))
 
 pub own-run-spec : {M : Type 1} → statement M
 own-run-spec =
@@ -142,7 +151,7 @@ own-run-spec =
     element-write-st-2
     mul-args
     array-copy-out-args
-    mul-t25
+    mul-t26
     element-set-from-st
     element-copy-out-st-3
     element-write-st-3
