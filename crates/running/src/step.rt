@@ -52,22 +52,20 @@ pub struct Choice {
     pub row: Row,
 }
 
-// Argument by argument, the first shared term on its parent path.
+// Argument by argument, the first shared term on its parent path. The paths are laid in the same two arrays, one after the other.
 fn chosen(colours: &[u8; 511], r: Rooting, of_s: Row, of_t: Row, arity: usize) -> Choice
     requires { ⌜ Choosing (now colours) (r .toward) (r .by) (r .rank) «of_s» «of_t» arity ⌝ }
     ensures { λ c. ⌜ ((w : Choosing (now (colours .entry)) (r .toward) (r .by) (r .rank) «of_s» «of_t» arity) → ChoiceOf (firstShared (w .ts) (w .ls) (w .table) (w .graph) (w .left) (w .right)) c) ⌝ }
 {
-    let toward = r.toward;
-    let by = r.by;
-    let rank = r.rank;
+    let stops = &mut [0u16; 511];
+    let ways = &mut [0u16; 511];
     let mut args = [0u16; 4];
     let mut j = 0;
     while j < arity {
         let u = of_s.args[j];
         let v = of_t.args[j];
-        let trail = paths::path(&toward, &by, &rank, u, v);
-        let stops = trail.stops;
-        let met = first_shared(colours, &stops, trail.hops);
+        let hops = paths::lay_path(&r.toward, &r.by, &r.rank, u, v, stops, ways);
+        let met = first_shared(colours, stops, hops);
         let Met::At(m) = met else {
             return Choice {
                 stuck: true,
