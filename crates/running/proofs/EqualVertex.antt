@@ -19,7 +19,7 @@ use Rattle.running.specs.Keys.{noRow}
 use Rattle.running.specs.Stepping.{numberOr, Placing}
 use Rattle.running.specs.declared.Row.{Row}
 use Rattle.running.specs.declared.state.State.{State as Arrays}
-use Rattle.running.proofs.Showing.{shown-symbol, shown-arity, shown-row, shown-vertex}
+use Rattle.running.proofs.Showing.{shown-symbol, shown-arity, shown-row, shown-vertex, enlarged, shows-term}
 use Rattle.closure.proofs.Running.MiddleStep.{equal-terms}
 
 -- ---- rows
@@ -43,7 +43,7 @@ module _ {s : Arrays} {symbol arity : ℕ} {row : Row} (p : Placing s symbol ari
   table = tableOf (p .ts) (p .reached)
 
   -- the code counts its terms
-  pub count-is : s .terms ≡ length table
+  count-is : s .terms ≡ length table
   count-is = p .shows .terms
 
   -- which fit the arrays
@@ -170,24 +170,28 @@ module _ {s : Arrays} {symbol arity : ℕ} {row : Row} (p : Placing s symbol ari
         go (some v) q = omega (arith, e ∙ ap (numberOr (length table)) q, equal-within v q, p .shows .within)
         go none q = omega (arith, e ∙ ap (numberOr (length table)) q, p .shows .within)
 
-    -- a number of the table is that of the vertex
-    number-some : number < s .terms → (v : ℕ) × (vertexEqual (p .ts) (p .ls) (p .reached) (p .middle) ≡ some v) × (number ≡ v)
+    -- a number that is not the count of the terms is that of the vertex
+    number-some : (number ≡ s .terms → ⊥) → (v : ℕ) × (vertexEqual (p .ts) (p .ls) (p .reached) (p .middle) ≡ some v) × (number ≡ v)
     number-some l = go (vertexEqual (p .ts) (p .ls) (p .reached) (p .middle)) refl
       where
         go : (o : Option ℕ) → vertexEqual (p .ts) (p .ls) (p .reached) (p .middle) ≡ o → (v : ℕ) × (vertexEqual (p .ts) (p .ls) (p .reached) (p .middle) ≡ some v) × (number ≡ v)
         go (some v) q = (v, q, e ∙ ap (numberOr (length table)) q)
-        go none q = let z : ⊥ = omega (arith, e ∙ ap (numberOr (length table)) q, count-is) in absurd z
+        go none q = absurd (l (e ∙ ap (numberOr (length table)) q ∙ sym count-is))
 
-    -- another says that there is none
-    pub number-none : s .terms ≤ number → vertexEqual (p .ts) (p .ls) (p .reached) (p .middle) ≡ none
+    -- the count says that there is none
+    number-none : number ≡ s .terms → vertexEqual (p .ts) (p .ls) (p .reached) (p .middle) ≡ none
     number-none l = go (vertexEqual (p .ts) (p .ls) (p .reached) (p .middle)) refl
       where
         go : (o : Option ℕ) → vertexEqual (p .ts) (p .ls) (p .reached) (p .middle) ≡ o → vertexEqual (p .ts) (p .ls) (p .reached) (p .middle) ≡ none
         go (some v) q = let z : ⊥ = omega (arith, e ∙ ap (numberOr (length table)) q, equal-within v q, count-is) in absurd z
         go none q = q
 
+    -- and that there is room for it
+    pub number-room : number ≡ s .terms → number < 511
+    number-room l = omega (arith, count-is, p .room (number-none l))
+
     -- the vertex stays in its place
-    pub placed-there : number < s .terms → Shows (p .ts) (p .ls) (placed (p .ts) (p .ls) (p .reached) (p .middle) .state) s × (number ≡ placed (p .ts) (p .ls) (p .reached) (p .middle) .number)
+    pub placed-there : (number ≡ s .terms → ⊥) → Shows (p .ts) (p .ls) (placed (p .ts) (p .ls) (p .reached) (p .middle) .state) s × (number ≡ placed (p .ts) (p .ls) (p .reached) (p .middle) .number)
     unfolding placed placeAs
     placed-there l =
         let w = number-some l in
@@ -195,9 +199,12 @@ module _ {s : Arrays} {symbol arity : ℕ} {row : Row} (p : Placing s symbol ari
         (sym (w .1)) (p .shows, w .2)
 
     -- the new one comes behind all others
-    pub placed-new : (r : Arrays) → s .terms ≤ number → Shows (p .ts) (p .ls) (withTerm (p .reached) (p .middle)) r → Shows (p .ts) (p .ls) (placed (p .ts) (p .ls) (p .reached) (p .middle) .state) r × (number ≡ placed (p .ts) (p .ls) (p .reached) (p .middle) .number)
+    pub placed-new : number ≡ s .terms → Shows (p .ts) (p .ls) (placed (p .ts) (p .ls) (p .reached) (p .middle) .state) (enlarged s symbol arity row number) × (number ≡ placed (p .ts) (p .ls) (p .reached) (p .middle) .number)
     unfolding placed placeAs
-    placed-new r l shows =
+    placed-new l =
         let q = number-none l in
-        subst (λ (o : Option ℕ). Shows (p .ts) (p .ls) (placeAs (p .ts) (p .reached) (p .middle) o .state) r × (number ≡ placeAs (p .ts) (p .reached) (p .middle) o .number))
+        let shows : Shows (p .ts) (p .ls) (withTerm (p .reached) (p .middle)) (enlarged s symbol arity row number) =
+        subst (λ (n : ℕ). Shows (p .ts) (p .ls) (withTerm (p .reached) (p .middle)) (enlarged s symbol arity row n)) (sym l)
+        (shows-term (p .ts) (p .ls) (p .reached) s (p .middle) symbol arity row (omega (arith, number-room l)) (p .shows) (p .lower) (p .symbol-is) (p .arity-is) (p .row-is) (p .new-shared q)) in
+        subst (λ (o : Option ℕ). Shows (p .ts) (p .ls) (placeAs (p .ts) (p .reached) (p .middle) o .state) (enlarged s symbol arity row number) × (number ≡ placeAs (p .ts) (p .reached) (p .middle) o .number))
         (sym q) (shows, e ∙ ap (numberOr (length table)) q)

@@ -1,9 +1,11 @@
 // One derived step of the library's own run.
 
 use super::Row;
+use super::edge::joined_on;
 use super::state::State;
 use super::state::Stepped;
 use closure::EdgeKind;
+use graphs::graph::Graph;
 use graphs::paths;
 use graphs::rooting;
 use graphs::rooting::Rooting;
@@ -16,10 +18,11 @@ ghost use lib.ListN.{length, getD, take};
 ghost use Rattle.tables.specs.Words.{same, firstOf, pair};
 ghost use Rattle.tables.specs.Terms.{Term};
 ghost use Rattle.tables.specs.LiteralTable.{Literal};
-ghost use Rattle.closure.specs.Steps.{State as Reached, tableOf, vertexEqual, placed as placedIn, tied as tiedIn};
+ghost use Rattle.closure.specs.Steps.{State as Reached, tableOf, vertexEqual, tied as tiedIn};
 ghost use Rattle.closure.specs.OwnRun.{firstShared, middleFrom, derivable, derivedStep};
-ghost use Rattle.running.specs.Shown.{Shows};
+ghost use Rattle.running.specs.Shown.{Shows, regraphed};
 ghost use Rattle.running.specs.Stepping.{metOf, Choosing, ChoiceOf, numberOr, Placing, OnRun, Apart, colouring, Outcome};
+ghost use Rattle.running.specs.declared.state.State.{State as Arrays};
 
 // A vertex that a search meets.
 pub enum Met {
@@ -49,22 +52,20 @@ pub struct Choice {
     pub row: Row,
 }
 
-// Argument by argument, the first shared term on its parent path.
+// Argument by argument, the first shared term on its parent path. The paths are laid in the same two arrays, one after the other.
 fn chosen(colours: &[u8; 511], r: Rooting, of_s: Row, of_t: Row, arity: usize) -> Choice
     requires { ⌜ Choosing (now colours) (r .toward) (r .by) (r .rank) «of_s» «of_t» arity ⌝ }
     ensures { λ c. ⌜ ((w : Choosing (now (colours .entry)) (r .toward) (r .by) (r .rank) «of_s» «of_t» arity) → ChoiceOf (firstShared (w .ts) (w .ls) (w .table) (w .graph) (w .left) (w .right)) c) ⌝ }
 {
-    let toward = r.toward;
-    let by = r.by;
-    let rank = r.rank;
+    let stops = &mut [0u16; 511];
+    let ways = &mut [0u16; 511];
     let mut args = [0u16; 4];
     let mut j = 0;
     while j < arity {
         let u = of_s.args[j];
         let v = of_t.args[j];
-        let trail = paths::path(&toward, &by, &rank, u, v);
-        let stops = trail.stops;
-        let met = first_shared(colours, &stops, trail.hops);
+        let hops = paths::lay_path(&r.toward, &r.by, &r.rank, u, v, stops, ways);
+        let met = first_shared(colours, stops, hops);
         let Met::At(m) = met else {
             return Choice {
                 stuck: true,
@@ -115,51 +116,37 @@ fn vertex_equal(st: State, symbol: u16, arity: u8, row: Row) -> usize
     count
 }
 
-// The middle term in its place.
-pub struct Place {
-    pub state: State,
-    pub number: u16,
-}
-
-// "If it is not a vertex it becomes one."
-fn placed(st: State, symbol: u16, arity: u8, row: Row) -> Place
-    requires { ⌜ Placing st symbol arity row ⌝ }
-    ensures { λ r. ⌜ ((p : Placing st symbol arity row) → Shows (p .ts) (p .ls) (placedIn (p .ts) (p .ls) (p .reached) (p .middle) .state) (r .state) × (r .number ≡ placedIn (p .ts) (p .ls) (p .reached) (p .middle) .number)) ⌝ }
+// "each of s and t not yet joined to it gets a derived edge to it": one end's part. The labels change in their place.
+fn tied(labels: &mut [u16; 511], graph: Graph, s: u16, m: u16, colour: Side) -> Graph
+    requires { ⌜ (length (now labels) ≡ 511) × (s < 511) × (m < 511) × ((getD (now labels) s 0 ≡ getD (now labels) m 0 → ⊥) → graph .count < 510) ⌝ }
+    ensures { λ r. ⌜ ((ts : List Term) (ls : List Literal) (reached : Reached) (a : Arrays) → Shows ts ls reached (regraphed a graph (now (labels .entry))) → Shows ts ls (tiedIn reached s m colour) (regraphed a r (now (labels .exit)))) ⌝ }
 {
-    let at = vertex_equal(st, symbol, arity, row);
-    let number = at as u16;
-    if at < st.terms {
-        return Place { state: st, number };
+    if labels[s as usize] == labels[m as usize] {
+        return graph;
     }
-    let state = st.with_term(symbol, arity, row);
-    Place { state, number }
+    joined_on(
+        labels,
+        graph,
+        s as usize,
+        m as usize,
+        colour,
+        EdgeKind::Derived,
+    )
 }
 
-// "each of s and t not yet joined to it gets a derived edge to it": one end's part.
-fn tied(st: State, s: u16, m: u16, colour: Side) -> State
-    requires { ⌜ (s < 511) × (m < 511) × ((getD (st .labels) s 0 ≡ getD (st .labels) m 0 → ⊥) → st .graph .count < 510) ⌝ }
-    ensures { λ r. ⌜ ((ts : List Term) (ls : List Literal) (reached : Reached) → Shows ts ls reached st → Shows ts ls (tiedIn reached s m colour) r) ⌝ }
-{
-    if st.labels[s as usize] == st.labels[m as usize] {
-        return st;
-    }
-    st.with_edge(s, m, colour, EdgeKind::Derived)
-}
-
-// The step by a middle term, from s, which is A-colourable only, to t.
-fn middle_step(st: State, s: u16, t: u16) -> Stepped
+// The step by a middle term, from s, which is A-colourable only, to t. "If it is not a vertex it becomes one": a shared term more. The state changes in
+// its place, since a function for each part would copy it on its way in and out.
+fn middle_step(mut st: State, s: u16, t: u16) -> Stepped
     requires { ⌜ ((run : OnRun st) × Apart (run .ts) (run .ls) (run .reached) s t) ⌝ }
     ensures { λ r. ⌜ ((run : OnRun st) → Apart (run .ts) (run .ls) (run .reached) s t → Outcome (run .ts) (run .ls) (middleFrom (run .ts) (run .ls) (run .reached) s t) r) ⌝ }
 {
-    let labels = st.labels;
-    let graph = st.graph;
-    let colours = st.colours;
     let symbol = st.symbols[s as usize];
     let arity = st.arities[s as usize];
     let of_s = st.rows[s as usize];
     let of_t = st.rows[t as usize];
-    let forest = rooting::rooted(graph, &labels);
-    let c = chosen(&colours, forest, of_s, of_t, arity as usize);
+    let graph = st.graph;
+    let forest = rooting::rooted(graph, &st.labels);
+    let c = chosen(&st.colours, forest, of_s, of_t, arity as usize);
     if c.stuck {
         return Stepped {
             stuck: true,
@@ -167,14 +154,22 @@ fn middle_step(st: State, s: u16, t: u16) -> Stepped
         };
     }
     let row = c.row;
-    let middle = placed(st, symbol, arity, row);
-    let there = middle.state;
-    let m = middle.number;
-    let half = tied(there, s, m, Side::A);
-    let whole = tied(half, t, m, Side::B);
+    let at = vertex_equal(st, symbol, arity, row);
+    let m = at as u16;
+    if at == st.terms {
+        st.symbols[at] = symbol;
+        st.arities[at] = arity;
+        st.rows[at] = row;
+        st.colours[at] = 3;
+        st.vertices[at] = true;
+        st.terms = at + 1;
+    }
+    let half = tied(&mut st.labels, graph, s, m, Side::A);
+    let whole = tied(&mut st.labels, half, t, m, Side::B);
+    st.graph = whole;
     Stepped {
         stuck: false,
-        state: whole,
+        state: st,
     }
 }
 

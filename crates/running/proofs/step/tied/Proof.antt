@@ -17,13 +17,19 @@ element-copy-out-if1-2 : tie.Need-element-copy-out-if1-2
 element-copy-out-if1-2 c = search needs
 
 returns : tie.Need-returns
-returns c ts ls reached shows = shows-joined ts ls reached _ shows _ _ (c .before .before .before .pre .0) (c .before .before .before .pre .1) _ (c .if1 .taken)
+returns c ts ls reached a shows =
+    let pre = c .before .before .before .pre in
+    shows-joined ts ls reached _ shows _ _ (pre .1) (pre .2) _ (c .if1 .taken)
 
-with-edge-requires : tie.Need-with-edge-requires
-with-edge-requires c κs = (c .before .before .before .pre .0, c .before .before .before .pre .1, c .before .before .before .pre .2 (c .if1 .left))
+joined-on-requires : tie.Need-joined-on-requires
+joined-on-requires c κs =
+    let pre = c .before .before .before .before .pre in
+    (pre .0, pre .1, pre .2, pre .3 (c .before .if1 .left))
 
 returns-2 : tie.Need-returns-2
-returns-2 c ts ls reached shows = shows-tied ts ls reached _ shows _ _ (c .before .before .before .before .pre .0) (c .before .before .before .before .pre .1) _ _ (c .before .if1 .left) (c .with-edge .ensures ts ls reached shows)
+returns-2 c ts ls reached a shows =
+    let pre = c .before .before .before .before .before .pre in
+    shows-tied ts ls reached _ shows _ _ (pre .1) (pre .2) _ _ (c .before .before .if1 .left) (c .joined-on .ensures ts ls reached a shows)
 
 pub tied-spec : {M : Type 1} → statement M
 tied-spec =
@@ -34,5 +40,5 @@ tied-spec =
     mul-if1-2
     element-copy-out-if1-2
     returns
-    with-edge-requires
+    joined-on-requires
     returns-2)
