@@ -21,6 +21,7 @@ ghost use Rattle.tables.specs.LiteralTable.{Literal};
 ghost use Rattle.closure.specs.Steps.{State as Reached, tableOf, vertexEqual, tied as tiedIn};
 ghost use Rattle.closure.specs.OwnRun.{firstShared, middleFrom, derivable, derivedStep};
 ghost use Rattle.running.specs.Shown.{Shows, regraphed};
+ghost use Rattle.running.specs.Keys.{searched};
 ghost use Rattle.running.specs.Stepping.{metOf, Choosing, ChoiceOf, numberOr, Placing, OnRun, Apart, colouring, Outcome};
 ghost use Rattle.running.specs.declared.state.State.{State as Arrays};
 
@@ -96,17 +97,26 @@ fn same_row(a: Row, b: Row) -> bool
     true
 }
 
-// The number of the vertex that equals the middle term, or the number of terms where there is none. Past the arity a row holds 0, which may be
-// term 0, so the arity is compared too.
-fn vertex_equal(st: State, symbol: u16, arity: u8, row: Row) -> usize
-    requires { ⌜ Placing st symbol arity row ⌝ }
-    ensures { λ r. ⌜ ((p : Placing st symbol arity row) → r ≡ numberOr (length (tableOf (p .ts) (p .reached))) (vertexEqual (p .ts) (p .ls) (p .reached) (p .middle))) ⌝ }
+// The number of the vertex that equals the middle term of a row with the symbol and the arity of s, or the number of terms where there is none. Past the
+// arity a row holds 0, which may be term 0, so the arity is compared too. What is read is lent array by array, so that no state is copied for it.
+fn vertex_equal<'a>(
+    symbols: &'a [u16; 511],
+    arities: &'a [u8; 511],
+    vertices: &'a [bool; 511],
+    rows: [Row; 511],
+    count: usize,
+    s: u16,
+    row: Row,
+) -> usize
+    requires { ⌜ ((a : Arrays) × (count ≡ a .terms) × (s < 511) × Placing (searched a (a .labels) (now symbols) (now vertices) (now arities) «rows») (getD (now symbols) s 0) (getD (now arities) s 0) row) ⌝ }
+    ensures { λ r. ⌜ ((a : Arrays) → count ≡ a .terms → (p : Placing (searched a (a .labels) (now (symbols .entry)) (now (vertices .entry)) (now (arities .entry)) «rows») (getD (now (symbols .entry)) s 0) (getD (now (arities .entry)) s 0) row) → r ≡ numberOr (length (tableOf (p .ts) (p .reached))) (vertexEqual (p .ts) (p .ls) (p .reached) (p .middle))) ⌝ }
 {
-    let count = st.terms;
+    let symbol = symbols[s as usize];
+    let arity = arities[s as usize];
     let mut v = 0;
     while v < count {
-        if (st.symbols[v] == symbol) & (st.arities[v] == arity) & st.vertices[v] {
-            let other = st.rows[v];
+        if (symbols[v] == symbol) & (arities[v] == arity) & vertices[v] {
+            let other = rows[v];
             if same_row(other, row) {
                 return v;
             }
@@ -154,9 +164,11 @@ fn middle_step(mut st: State, s: u16, t: u16) -> Stepped
         };
     }
     let row = c.row;
-    let at = vertex_equal(st, symbol, arity, row);
+    let rows = st.rows;
+    let n = st.terms;
+    let at = vertex_equal(&st.symbols, &st.arities, &st.vertices, rows, n, s, row);
     let m = at as u16;
-    if at == st.terms {
+    if at == n {
         st.symbols[at] = symbol;
         st.arities[at] = arity;
         st.rows[at] = row;

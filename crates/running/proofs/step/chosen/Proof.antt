@@ -73,12 +73,14 @@ loop-less c = omega arith
 
 loop-again : tie.Need-loop-again Inv-loop μ-loop
 loop-again c =
-    let ensured = c .before .before .before .before .before .lay-path .ensures in
-    (ensured .0, λ w.
-    let j = c .before .before .before .before .before .before .before .before .before .before .before .before .before .before .before .loop .j in
-    let more = c .before .before .before .before .before .before .before .before .before .before .before .before .before .before .loop-test .taken in
-    chosen-more w j more _ _ (c .before .before .before .before .before .before .before .before .before .before .before .before .before .before .before .loop .inv .1 w)
-    (sym (met-is w j more _ (ensured .1 (w .graph) (walks w j more))) ∙ sym (c .before .before .before .first-shared .ensures) ∙ ap metOf (c .before .met .given .1)))
+    let ensured = c .before .before .before .before .before .lay-path .ensures in (
+      ensured .0,
+      λ w.
+          let j = c .before .before .before .before .before .before .before .before .before .before .before .before .before .before .before .loop .j in
+          let more = c .before .before .before .before .before .before .before .before .before .before .before .before .before .before .loop-test .taken in
+          chosen-more w j more _ _ (c .before .before .before .before .before .before .before .before .before .before .before .before .before .before .before .loop .inv .1 w)
+          (sym (met-is w j more _ (ensured .1 (w .graph) (walks w j more))) ∙ sym (c .before .before .before .first-shared .ensures) ∙ ap metOf (c .before .met .given .1)),
+    )
 
 returns-2 : tie.Need-returns-2 Inv-loop μ-loop
 returns-2 c w = hands-some _ _ refl (chosen-all w _ (c .before .loop .j) (c .before .loop .inv .1 w) (c .loop-test .left))

@@ -57,18 +57,20 @@ to-place : (c : tie.After-row) → Placing (c .before .before .before .before .b
 to-place c = placing (c .before .before .before .before .before .before .before .before .before .before .before .before .before .pre .0) _ _ (c .before .before .before .before .before .before .before .before .before .before .before .before .before .pre .1) _ (row-is c (c .before .before .before .before .before .before .before .before .before .before .before .before .before .pre .0) (c .before .before .before .before .before .before .before .before .before .before .before .before .before .pre .1))
 
 vertex-equal-requires : tie.Need-vertex-equal-requires
-vertex-equal-requires c κs = to-place c
+vertex-equal-requires c κs =
+    let start = c .before .before .before .before .before .before .before .before .before .before .before .before .before .before .before .before .before .before in
+    (start .args .t1, refl, vertex-small (start .pre .0) _ (start .pre .1 .left-vertex), to-place (c .before .before .before .before .before))
 
 cast-m : tie.Need-cast-m
 cast-m c =
-    let p = to-place (c .before) in
-    record { fits = omega (arith, number-fits p _ (c .vertex-equal .ensures p)) }
+    let p = to-place (c .before .before .before .before .before .before) in
+    record { fits = omega (arith, number-fits p _ (c .vertex-equal .ensures (c .before .before .before .before .before .before .before .before .before .before .before .before .before .before .before .before .before .before .before .args .t1) refl p)) }
 
 -- where it is new there is room for it
 room : (c : tie.Then2) → c .before .vertex-equal .result < 511
 room c =
-    let p = to-place (c .before .before) in
-    number-room p _ (c .before .vertex-equal .ensures p) (c .if2 .taken)
+    let p = to-place (c .before .before .before .before .before .before .before) in
+    number-room p _ (c .before .vertex-equal .ensures (c .before .before .before .before .before .before .before .before .before .before .before .before .before .before .before .before .before .before .before .before .args .t1) refl p) (c .if2 .taken)
 
 mul-st : tie.Need-mul-st
 mul-st c = omega (arith, room c)
@@ -95,29 +97,29 @@ add-st : tie.Need-add-st
 add-st c = omega (arith, room c)
 
 -- the middle term is in its place
-put : (c : tie.Joined2) (run : OnRun (c .before .before .before .before .before .before .before .before .before .before .before .before .before .before .before .args .t1)) (apart : Apart (run .ts) (run .ls) (run .reached) (c .before .before .before .before .before .before .before .before .before .before .before .before .before .before .before .args .s) (c .before .before .before .before .before .before .before .before .before .before .before .before .before .before .before .args .t)) → Shows (run .ts) (run .ls) (placed (run .ts) (run .ls) (run .reached) (middle run _ _ apart) .state) (regraphed (c .if2 .st) (c .before .before .before .before .before .before .before .before .before .before .before .before .before .before .before .args .t1 .graph) (c .if2 .st .labels)) × (c .before .vertex-equal .result ≡ placed (run .ts) (run .ls) (run .reached) (middle run _ _ apart) .number)
+put : (c : tie.Joined2) (run : OnRun (c .before .before .before .before .before .before .before .before .before .before .before .before .before .before .before .before .before .before .before .before .args .t1)) (apart : Apart (run .ts) (run .ls) (run .reached) (c .before .before .before .before .before .before .before .before .before .before .before .before .before .before .before .before .before .before .before .before .args .s) (c .before .before .before .before .before .before .before .before .before .before .before .before .before .before .before .before .before .before .before .before .args .t)) → Shows (run .ts) (run .ls) (placed (run .ts) (run .ls) (run .reached) (middle run _ _ apart) .state) (regraphed (c .if2 .st) (c .before .before .before .before .before .before .before .before .before .before .before .before .before .before .before .before .before .before .before .before .args .t1 .graph) (c .if2 .st .labels)) × (c .before .vertex-equal .result ≡ placed (run .ts) (run .ls) (run .reached) (middle run _ _ apart) .number)
 put c run apart =
-    put-shown run _ _ apart _ (row-is (c .before .before) run apart) _ _
+    put-shown run _ _ apart _ (row-is (c .before .before .before .before .before .before .before) run apart) _ _
     (λ q.
     let number = c .before .vertex-equal .result in
     let there = placed (q .ts) (q .ls) (q .reached) (q .middle) in
-    let e = c .before .vertex-equal .ensures q in
+    let e = c .before .vertex-equal .ensures (c .before .before .before .before .before .before .before .before .before .before .before .before .before .before .before .before .before .before .before .before .args .t1) refl q in
     ⊎-elim
-    (λ v. subst (λ (s : Arrays). Shows (q .ts) (q .ls) (there .state) (regraphed s (c .before .before .before .before .before .before .before .before .before .before .before .before .before .before .before .args .t1 .graph) (s .labels)) × (number ≡ there .number)) (sym (v .1)) (placed-new q number e (v .0 .taken)))
-    (λ v. subst (λ (s : Arrays). Shows (q .ts) (q .ls) (there .state) (regraphed s (c .before .before .before .before .before .before .before .before .before .before .before .before .before .before .before .args .t1 .graph) (s .labels)) × (number ≡ there .number)) (sym (v .1)) (placed-there q number e (v .0 .left)))
+    (λ v. subst (λ (s : Arrays). Shows (q .ts) (q .ls) (there .state) (regraphed s (c .before .before .before .before .before .before .before .before .before .before .before .before .before .before .before .before .before .before .before .before .args .t1 .graph) (s .labels)) × (number ≡ there .number)) (sym (v .1)) (placed-new q number e (v .0 .taken)))
+    (λ v. subst (λ (s : Arrays). Shows (q .ts) (q .ls) (there .state) (regraphed s (c .before .before .before .before .before .before .before .before .before .before .before .before .before .before .before .before .before .before .before .before .args .t1 .graph) (s .labels)) × (number ≡ there .number)) (sym (v .1)) (placed-there q number e (v .0 .left)))
     (c .if2 .came))
 
 tied-requires : tie.Need-tied-requires
 tied-requires c κs =
-    let run = c .before .before .before .before .before .before .before .before .before .before .before .before .before .before .before .before .pre .0 in
-    let apart = c .before .before .before .before .before .before .before .before .before .before .before .before .before .before .before .before .pre .1 in
+    let run = c .before .before .before .before .before .before .before .before .before .before .before .before .before .before .before .before .before .before .before .before .before .pre .0 in
+    let apart = c .before .before .before .before .before .before .before .before .before .before .before .before .before .before .before .before .before .before .before .before .before .pre .1 in
     let there = put (c .before) run apart in
     (shown-length (run .ts) (run .ls) _ _ (there .0), vertex-small run _ (apart .left-vertex), middle-small run _ _ apart _ _ (there .0) (there .1), first-room run _ _ apart _ _ (there .0) (there .1))
 
 tied-requires-2 : tie.Need-tied-requires-2
 tied-requires-2 c κs =
-    let run = c .before .before .before .before .before .before .before .before .before .before .before .before .before .before .before .before .before .before .pre .0 in
-    let apart = c .before .before .before .before .before .before .before .before .before .before .before .before .before .before .before .before .before .before .pre .1 in
+    let run = c .before .before .before .before .before .before .before .before .before .before .before .before .before .before .before .before .before .before .before .before .before .before .before .pre .0 in
+    let apart = c .before .before .before .before .before .before .before .before .before .before .before .before .before .before .before .before .before .before .before .before .before .before .before .pre .1 in
     let there = put (c .before .before .before) run apart in
     let half = c .before .tied .ensures (run .ts) (run .ls) _ (c .before .before .before .if2 .st) (there .0) in
     (shown-length (run .ts) (run .ls) _ _ half, vertex-small run _ (apart .right-vertex), middle-small run _ _ apart _ _ (there .0) (there .1), second-room run _ _ apart _ _ (there .0) (there .1) _ half)
