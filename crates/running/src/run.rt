@@ -27,9 +27,8 @@ ghost use Rattle.tables.specs.Read.{argumentRows};
 ghost use Rattle.closure.specs.Steps.{begin as noSteps};
 ghost use Rattle.closure.specs.OwnRun.{basicSteps, firstPair, derivedStep, turnsAt};
 ghost use Rattle.tables.specs.declared.Check.the-variants.{Sound};
-ghost use Rattle.tables.specs.declared.Tables.{Tables as Read};
 ghost use Rattle.running.specs.Shown.{Shows, regraphed};
-ghost use Rattle.running.specs.Opening.{ReadFrom, Opens};
+ghost use Rattle.running.specs.Opening.{ReadFrom};
 ghost use Rattle.running.specs.Stepping.{OnRun, Outcome, Ends};
 ghost use Rattle.running.specs.declared.state.State.{State as Arrays};
 

@@ -1,5 +1,5 @@
--- `running::run::own_run` meets its contract: the state before the first step, the basic steps, and the turns. The invariant of the loop that lays that
--- state out: the places passed are copied. The measure is what is left of them.
+-- `running::run::own_run` meets its contract: the state before the first step, the basic steps over the records that are lent, and the turns. The
+-- invariant of the loop that lays that state out: the places passed are copied. The measure is what is left of them.
 use mathlib.Core.Bool.{false}
 use mathlib.Core.List.{List, [], _∷_}
 use mathlib.Core.Path.{_≡_, refl, sym, subst}
@@ -11,7 +11,7 @@ use Rattle.tables.specs.Read.{argumentRows}
 use Rattle.tables.proofs.Records.{filling-none, filling-more}
 use Rattle.running.specs.Opening.{ReadFrom, Opens}
 use Rattle.running.specs.Stepping.{Ends}
-use Rattle.running.proofs.Beginning.{Copied, terms-fit, opens, lent}
+use Rattle.running.proofs.Beginning.{Copied, lent, terms-fit, opens}
 use Rattle.running.proofs.OwnTurns.{after-basic, turns-given, ends}
 use Rattle.running.proofs.run.own_run.Statement.{statement}
 use Rattle.running.proofs.run.own_run.Tie as tie
