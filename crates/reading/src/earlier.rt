@@ -55,7 +55,7 @@ fn digit(r: &[u8], at: usize) -> u64
     bytes::word_at(r, at) as u64
 }
 
-// A number that equal records have in common, and other records of a sound table do not.
+// A number that equal records have in common. Nothing rests on other records having another; they have, once rows 3 and 4 refuse nothing.
 fn record_key(r: &[u8]) -> u64
     requires { ⌜ length (now r) ≡ 16 ⌝ }
     ensures { λ d. ⌜ d ≡ recordKey (now (r .entry)) ⌝ }
