@@ -4,7 +4,7 @@ use mathlib.Core.Path.{_≡_, refl, sym, ap, ap₂, _∙_}
 use Prim.Native.Nat.{ℕ, _+_, _*_, _≤_}
 use native.Mathlib.Numerals.{add-one}
 use native.Mathlib.Omega.{arith}
-use lib.ListN.{length, take, drop, length-append, length-drop}
+use lib.ListN.{length, take, drop, length-append}
 use lib.Seq.{paste, take-at, take-length, drop-append-add, drop-drop, length-take-le}
 use Rattle.tables.specs.Words.{below}
 use Rattle.tables.proofs.Words.{length-below}
@@ -17,11 +17,6 @@ unfolding writtenOver
 paste-all d at s h =
     ap₂ (λ (xs : List ℕ) (k : ℕ). take at d ++ xs ++ drop k d) (take-length s)
     (sym (length-append (take at d) s ∙ ap (λ (k : ℕ). k + length s) (length-take-le at d h)))
-
--- what is written over a buffer has its length
-pub length-over : (bytes buffer : List ℕ) → length bytes ≤ length buffer → length (writtenOver bytes buffer) ≡ length buffer
-unfolding writtenOver
-length-over bytes buffer h = simp (length-append, length-drop) (omega arith)
 
 -- bytes put behind those that are written already
 pub over-more : (bytes more buffer out : List ℕ) (at : ℕ) → length bytes ≡ at → out ≡ writtenOver bytes buffer → writtenOver (take at out ++ more) out ≡ writtenOver (bytes ++ more) buffer
