@@ -14,7 +14,7 @@ use Rattle.closure.specs.Forests.{Each}
 use Rattle.graphs.specs.Layout.{noEdge, lastFirst, newestFirst}
 use Rattle.graphs.proofs.Numbered.{lastFirst-length}
 use Rattle.marking.specs.Marks.{isB}
-use Rattle.marking.specs.Drawn.{isDerived, EdgeAt}
+use Rattle.marking.specs.Drawn.{isDerived, PartsAt}
 use Rattle.marking.specs.declared.edges.Columns.{Columns}
 
 -- the first i places of an array of a size say what f says
@@ -73,7 +73,7 @@ module _ (es : List Edge) where
       }
 
   -- all edges stand under their numbers
-  pub laid-all : (n i : ℕ) (c : Columns) → n ≤ i → Laid i c → Each (EdgeAt (c .lefts) (c .rights) (c .inb) (c .derived)) (newestFirst n es)
+  pub laid-all : (n i : ℕ) (c : Columns) → n ≤ i → Laid i c → Each (PartsAt (c .lefts) (c .rights) (c .inb) (c .derived)) (newestFirst n es)
   unfolding lastFirst
   laid-all zero i c h w = tt
   laid-all (suc n) i c h w =

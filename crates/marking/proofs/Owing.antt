@@ -6,13 +6,13 @@ use mathlib.Core.Path.{_≡_, refl, sym, ap, ap₂, subst, _∙_}
 use Prim.Native.Nat.{ℕ, zero, suc, _+_, _-_, _*_, _≤_, _<_}
 use native.Mathlib.Nat.{not-suc-le-zero}
 use native.Mathlib.Omega.{arith}
-use lib.Dec.{T}
-use lib.ListN.{length, getD, drop, length-drop}
-use lib.Seq.{getD-take, getD-drop, length-take-le}
+use lib.Dec.{T, ltb, lt→ltb}
+use lib.ListN.{length, getD}
+use lib.Seq.{getD-take}
 use Rattle.tables.specs.Words.{Pair}
 use Rattle.tables.specs.Terms.{Term, termAt}
 use Rattle.tables.specs.LiteralTable.{Literal}
-use Rattle.tables.proofs.Words.{and-left, and-right, getD-mem, below-or-is, passes, passed}
+use Rattle.tables.proofs.Words.{and-right, getD-mem, below-or-is, passes, passed}
 use Rattle.closure.specs.declared.Edge.{Edge}
 use Rattle.closure.specs.declared.EdgeKind.{EdgeKind}
 use Rattle.closure.specs.declared.EdgeKind.the-variants.{Basic, Derived}
@@ -27,9 +27,8 @@ use Rattle.closure.proofs.Walking.OnePath.{path-older}
 use Rattle.closure.proofs.Walking.Parents.{SoundHop, hop-sound, path-hop, parent-hop}
 use Rattle.closure.proofs.Walking.Places.{basic-parents, joined-place, place-parent, parent-place}
 use Rattle.closure.proofs.Walking.ParentPaths.{sound-forest}
-use Rattle.marking.specs.declared.drawing.Drawing.{Drawing}
 use Rattle.marking.specs.Marks.{isB, Reached, end-of, across, along, EdgeReached, PairWithin, Marked, Covered, InOrder, Owed, Trailed, done, step, Within, RowsOf, Wanted}
-use Rattle.marking.specs.Drawn.{isDerived, EdgeAt, Drawn, DrawnSome, EdgeSettled, Settled}
+use Rattle.marking.specs.Drawn.{parentsFor, EdgeAt, Drawing, Drawn, DrawnSome, EdgeSettled, Settled}
 use Rattle.marking.proofs.Squares.{same-or-not}
 use Rattle.marking.proofs.Reached.{edge-parents, wants-owed, owed-kept, reached-owed}
 
@@ -52,9 +51,9 @@ numbered P (e ∷ G) i p h =
     (λ d. let r = numbered P G i (p .1) (omega (arith, h, d)) in record { edge = r .edge; older = r .older; has = r .has; walked = earlier (r .walked); count = r .count })
 
 -- the colour of a hop stands under its edge's number
-pub hop-colour : (lefts rights : List ℕ) (inb derived : List Bool) (G : Graph) → Each (EdgeAt lefts rights inb derived) G → {h : Hop} → HopOf h G → getD inb (length (h .older)) false ≡ isB (h .colour)
-hop-colour lefts rights inb derived G p {h} of =
-    let r = hop-each (EdgeAt lefts rights inb derived) of p in
+pub hop-colour : (table : List Term) (inb : List Bool) (places parents : List ℕ) (G : Graph) → Each (EdgeAt table inb places parents) G → {h : Hop} → HopOf h G → getD inb (length (h .older)) false ≡ isB (h .colour)
+hop-colour table inb places parents G p {h} of =
+    let r = hop-each (EdgeAt table inb places parents) of p in
     ⊎-elim (λ q. r .1 .colour-at ∙ ap (λ (g : Hop). isB (g .colour)) (sym q)) (λ q. r .1 .colour-at ∙ ap (λ (g : Hop). isB (g .colour)) (sym q)) (r .2)
 
 -- ---- a path of the closure layer as a trail
@@ -94,17 +93,27 @@ walk-stops G n m low {u} h (hop {h = g} {π = π} of q w) = go (walk-stops G n m
 
 -- ---- the arrays
 
--- the arity of an edge's ends
-abbrev pub arityAt : Drawing → ℕ → ℕ
-arityAt arrays i = getD (arrays .arities) (getD (arrays .lefts) i 0) 0
+-- how many parent paths an edge has
+abbrev pub placesAt : Drawing → ℕ → ℕ
+placesAt arrays i = getD (arrays .places) i 0
 
--- the vertex at place k of the arguments of an edge's left end
+-- where the one of place k begins, at an argument of the edge's left end
 abbrev pub leftAt : Drawing → ℕ → ℕ → ℕ
-leftAt arrays i k = getD (arrays .args) (4 * getD (arrays .lefts) i 0 + k) 0
+leftAt arrays i k = getD (arrays .parents) (8 * i + k) 0
 
--- the same of the right end
+-- and ends, at an argument of its right end
 abbrev pub rightAt : Drawing → ℕ → ℕ → ℕ
-rightAt arrays i k = getD (arrays .args) (4 * getD (arrays .rights) i 0 + k) 0
+rightAt arrays i k = getD (arrays .parents) (8 * i + 4 + k) 0
+
+-- no more than arguments
+places-few : (k : EdgeKind) (n : ℕ) → n ≤ 4 → parentsFor k n ≤ 4
+places-few Basic n h = omega arith
+places-few Derived n h = h
+
+-- an edge that has a parent path is derived
+has-derived : (k : EdgeKind) (n j : ℕ) → j < parentsFor k n → (k ≡ Derived) × (j < n)
+has-derived Basic n j l = absurd (not-suc-le-zero l)
+has-derived Derived n j l = (refl, l)
 
 module _ (arrays : Drawing) (ts : List Term) (ls : List Literal) (table : List Term) (G : Graph) (d : Drawn arrays ts ls table G) where
   -- the path between joined vertices as the closure layer hands it out
@@ -125,7 +134,7 @@ module _ (arrays : Drawing) (ts : List Term) (ls : List Literal) (table : List T
       let in-table : (k : ℕ) → k ≤ r .hops → getD (r .stops) k 0 < length table = λ k l. subst (λ (x : ℕ). x < length table) (sym (S k (omega (arith, t .hops, l)))) (in-range .0 k (omega (arith, t .hops, l))) in
       record {
         within = record { forward = omega arith; short = t .within; stops-low = λ k l. omega (arith, in-table k l, d .small); edges-low = λ k l. subst (λ (x : ℕ). x < 510) (sym (E k (omega (arith, t .hops, l)))) (in-range .1 k (omega (arith, t .hops, l))) };
-        trailed = walk-trailed (arrays .inb) (r .stops) (r .edges) (r .hops) G (λ h of. hop-colour (arrays .lefts) (arrays .rights) (arrays .inb) (arrays .derived) G (d .edges) of) 0 w (omega (arith, t .hops)) (λ k l. ap (λ (m : ℕ). getD (r .stops) m 0) (none k) ∙ S k l) (λ k l. ap (λ (m : ℕ). getD (r .edges) m 0) (none k) ∙ E k l);
+        trailed = walk-trailed (arrays .inb) (r .stops) (r .edges) (r .hops) G (λ h of. hop-colour table (arrays .inb) (arrays .places) (arrays .parents) G (d .edges) of) 0 w (omega (arith, t .hops)) (λ k l. ap (λ (m : ℕ). getD (r .stops) m 0) (none k) ∙ S k l) (λ k l. ap (λ (m : ℕ). getD (r .edges) m 0) (none k) ∙ E k l);
         in-table = in-table;
       }
 
@@ -133,126 +142,103 @@ module _ (arrays : Drawing) (ts : List Term) (ls : List Literal) (table : List T
   pub path-rows : {u v hi : ℕ} {stops edges : List ℕ} (size : ℕ) → 511 * length table ≤ size → PathRead u v hi stops edges → RowsOf size stops hi
   path-rows size h r = record { row = λ k l. omega (arith, r .in-table k l) }
 
-  -- the arguments of a vertex stand at its four places
-  pub arguments-long : (v : ℕ) → v < length table → length (termAt table v .arguments) ≡ getD (arrays .arities) v 0
-  arguments-long v h =
-      ap length (d .arguments v h) ∙ length-take-le (getD (arrays .arities) v 0) (drop (4 * v) (arrays .args)) (omega (arith, length-drop (4 * v) (arrays .args), d .long, d .arity v h, d .small))
-
-  -- each at its place
-  pub argument-at : (v : ℕ) → v < length table → (k : ℕ) → k < getD (arrays .arities) v 0 → getD (termAt table v .arguments) k 0 ≡ getD (arrays .args) (4 * v + k) 0
-  argument-at v h k l =
-      ap (λ (x : List ℕ). getD x k 0) (d .arguments v h) ∙ getD-take (getD (arrays .arities) v 0) (drop (4 * v) (arrays .args)) k 0 l ∙ getD-drop (4 * v) (arrays .args) k 0
-
-  -- the ends of an edge by its number
+  -- an edge by its number
   pub record EdgeRead (i : ℕ) : Type 0 where
     pub edge : Edge
     pub older : Graph
     pub walked : HopOf (forth edge older) G
     pub count-is : length older ≡ i
-    pub left-is : getD (arrays .lefts) i 0 ≡ edge .left
-    pub right-is : getD (arrays .rights) i 0 ≡ edge .right
-    pub kind-is : getD (arrays .derived) i false ≡ isDerived (edge .kind)
-    pub left-low : getD (arrays .lefts) i 0 < length table
-    pub right-low : getD (arrays .rights) i 0 < length table
+    pub places-is : placesAt arrays i ≡ parentsFor (edge .kind) (length (termAt table (edge .left) .arguments))
+    pub left-is : (k : ℕ) → k < placesAt arrays i → leftAt arrays i k ≡ getD (termAt table (edge .left) .arguments) k 0
+    pub right-is : (k : ℕ) → k < placesAt arrays i → rightAt arrays i k ≡ getD (termAt table (edge .right) .arguments) k 0
 
   -- each number below the count has one
   pub edge-read : (i : ℕ) → i < arrays .count → EdgeRead i
   edge-read i h =
-      let n = numbered (EdgeAt (arrays .lefts) (arrays .rights) (arrays .inb) (arrays .derived)) G i (d .edges) (omega (arith, d .counted)) in
-      let k = hop-sound ts ls table (n .walked) (d .sound) in
-      let l : getD (arrays .lefts) i 0 ≡ n .edge .left = ap (λ (x : ℕ). getD (arrays .lefts) x 0) (sym (n .count)) ∙ n .has .left-at in
-      let r : getD (arrays .rights) i 0 ≡ n .edge .right = ap (λ (x : ℕ). getD (arrays .rights) x 0) (sym (n .count)) ∙ n .has .right-at in
-      record {
-        edge = n .edge;
-        older = n .older;
-        walked = n .walked;
-        count-is = n .count;
-        left-is = l;
-        right-is = r;
-        kind-is = ap (λ (x : ℕ). getD (arrays .derived) x false) (sym (n .count)) ∙ n .has .kind-at;
-        left-low = subst (λ (x : ℕ). x < length table) (sym l) (k .from-within);
-        right-low = subst (λ (x : ℕ). x < length table) (sym r) (k .to-within);
-      }
+      let n = numbered (EdgeAt table (arrays .inb) (arrays .places) (arrays .parents)) G i (d .edges) (omega (arith, d .counted)) in
+      let e = n .edge in
+      let at = subst (λ (x : ℕ). (placesAt arrays x ≡ parentsFor (e .kind) (length (termAt table (e .left) .arguments))) × ((k : ℕ) → k < placesAt arrays x → leftAt arrays x k ≡ getD (termAt table (e .left) .arguments) k 0) × ((k : ℕ) → k < placesAt arrays x → rightAt arrays x k ≡ getD (termAt table (e .right) .arguments) k 0)) (n .count) (n .has .places-at, n .has .left-at, n .has .right-at) in
+      record { edge = e; older = n .older; walked = n .walked; count-is = n .count; places-is = at .0; left-is = at .1; right-is = at .2 }
 
-  -- what the arguments at place k of a derived edge are
-  pub record Paired (i k : ℕ) (H : Graph) (h : Hop) : Type 0 where
+  -- what the ends of the parent path at place k of an edge are
+  pub record Paired (i k : ℕ) (h : Hop) : Type 0 where
     pub left-low : leftAt arrays i k < length table
     pub right-low : rightAt arrays i k < length table
-    pub right-used : k < getD (arrays .arities) (getD (arrays .rights) i 0) 0
     pub join : T (joined G (leftAt arrays i k) (rightAt arrays i k))
     pub is-parent : List·Memᴰ (path G (leftAt arrays i k) (rightAt arrays i k)) (parentPaths table h)
 
   -- a derived edge's arguments are joined pair by pair, and the paths between them are its parent paths
-  module _ (i : ℕ) (h : i < arrays .count) (is : getD (arrays .derived) i false ≡ true) where
-    -- the hop over the edge from its left end
+  module _ (i : ℕ) (h : i < arrays .count) where
+    -- the edge
+    abbrev edgeI : Edge
+    edgeI = edge-read i h .edge
+
+    -- the hop over it from its left end
     abbrev pub hopI : Hop
     hopI = forth (edge-read i h .edge) (edge-read i h .older)
 
     -- the arguments of its left end
     abbrev xs : List ℕ
-    xs = termAt table (getD (arrays .lefts) i 0) .arguments
+    xs = termAt table (edgeI .left) .arguments
 
     -- the arguments of its right end
     abbrev ys : List ℕ
-    ys = termAt table (getD (arrays .rights) i 0) .arguments
-
-    -- its hop is derived
-    kind-derived : hopI .kind ≡ Derived
-    kind-derived = go (hopI .kind) (sym (edge-read i h .kind-is) ∙ is)
-      where
-        go : (k : EdgeKind) → isDerived k ≡ true → k ≡ Derived
-        go Basic e = let z : _≡_ {A = ℕ} 0 1 = cc in absurd (omega arith)
-        go Derived e = refl
+    ys = termAt table (edgeI .right) .arguments
 
     -- it is sound
     hop-is : SoundHop ts ls table hopI
     hop-is = hop-sound ts ls table (edge-read i h .walked) (d .sound)
 
-    -- the arguments at a place are joined by the older edges
-    joined-here : (k : ℕ) → k < length xs → (k < length ys) × T (joined (hopI .older) (getD xs k 0) (getD ys k 0))
-    joined-here = joined-place ts ls table hopI hop-is kind-derived (getD (arrays .lefts) i 0) (getD (arrays .rights) i 0) (edge-read i h .left-is) (edge-read i h .right-is)
+    -- where the edge is derived, the arguments at a place are joined by the older edges
+    joined-here : edgeI .kind ≡ Derived → (k : ℕ) → k < length xs → (k < length ys) × T (joined (hopI .older) (getD xs k 0) (getD ys k 0))
+    joined-here is = joined-place ts ls table hopI hop-is is (edgeI .left) (edgeI .right) refl refl
 
-    -- at each place of the arity
-    pub paired : (k : ℕ) → k < arityAt arrays i → Paired i k (hopI .older) hopI
+    -- and so are the ends of the parent path there
+    joined-ends : (k : ℕ) → k < placesAt arrays i → (is : edgeI .kind ≡ Derived) → k < length xs → T (joined (hopI .older) (leftAt arrays i k) (rightAt arrays i k))
+    joined-ends k l is within =
+        let r = edge-read i h in
+        subst (λ (y : ℕ). T (joined (hopI .older) (leftAt arrays i k) y)) (sym (r .right-is k l)) (subst (λ (y : ℕ). T (joined (hopI .older) y (getD ys k 0))) (sym (r .left-is k l)) (joined-here is k within .1))
+
+    -- the path between them is the one between the arguments
+    same-path : (k : ℕ) (l : k < placesAt arrays i) (is : edgeI .kind ≡ Derived) (within : k < length xs) → path (hopI .older) (getD xs k 0) (getD ys k 0) ≡ path G (leftAt arrays i k) (rightAt arrays i k)
+    same-path k l is within =
+        let r = edge-read i h in
+        ap₂ (path (hopI .older)) (sym (r .left-is k l)) (sym (r .right-is k l)) ∙ path-older (leftAt arrays i k) (rightAt arrays i k) (r .walked) (joined-ends k l is within)
+
+    -- at each place
+    pub paired : (k : ℕ) → k < placesAt arrays i → Paired i k hopI
     paired k l =
         let r = edge-read i h in
-        let within : k < length xs = omega (arith, arguments-long (getD (arrays .lefts) i 0) (r .left-low)) in
-        let x = joined-here k within in
-        let used : k < getD (arrays .arities) (getD (arrays .rights) i 0) 0 = omega (arith, x .0, arguments-long (getD (arrays .rights) i 0) (r .right-low)) in
-        let a : getD xs k 0 ≡ leftAt arrays i k = argument-at (getD (arrays .lefts) i 0) (r .left-low) k l in
-        let b : getD ys k 0 ≡ rightAt arrays i k = argument-at (getD (arrays .rights) i 0) (r .right-low) k used in
-        let j : T (joined (hopI .older) (leftAt arrays i k) (rightAt arrays i k)) = subst (λ (y : ℕ). T (joined (hopI .older) (leftAt arrays i k) y)) b (subst (λ (y : ℕ). T (joined (hopI .older) y (getD ys k 0))) a (x .1)) in
-        let same : path (hopI .older) (getD xs k 0) (getD ys k 0) ≡ path G (leftAt arrays i k) (rightAt arrays i k) = ap₂ (path (hopI .older)) a b ∙ path-older (leftAt arrays i k) (rightAt arrays i k) (r .walked) j in
-        let in-left = d .lower (getD (arrays .lefts) i 0) (r .left-low) (getD xs k 0) (getD-mem xs k 0 within) in
-        let in-right = d .lower (getD (arrays .rights) i 0) (r .right-low) (getD ys k 0) (getD-mem ys k 0 (x .0)) in
+        let has = has-derived (edgeI .kind) (length xs) k (omega (arith, l, r .places-is)) in
+        let x = joined-here (has .0) k (has .1) in
+        let in-left = d .lower (edgeI .left) (hop-is .from-within) (getD xs k 0) (getD-mem xs k 0 (has .1)) in
+        let in-right = d .lower (edgeI .right) (hop-is .to-within) (getD ys k 0) (getD-mem ys k 0 (x .0)) in
         record {
-          left-low = omega (arith, in-left, a, r .left-low);
-          right-low = omega (arith, in-right, b, r .right-low);
-          right-used = used;
-          join = older-joined (leftAt arrays i k) (rightAt arrays i k) (r .walked) j;
-          is-parent = subst (λ (π : Path). List·Memᴰ π (parentPaths table hopI)) same (place-parent ts ls table hopI hop-is kind-derived (getD (arrays .lefts) i 0) (getD (arrays .rights) i 0) (r .left-is) (r .right-is) k within);
+          left-low = omega (arith, in-left, r .left-is k l, hop-is .from-within);
+          right-low = omega (arith, in-right, r .right-is k l, hop-is .to-within);
+          join = older-joined (leftAt arrays i k) (rightAt arrays i k) (r .walked) (joined-ends k l (has .0) (has .1));
+          is-parent = subst (λ (π : Path). List·Memᴰ π (parentPaths table hopI)) (same-path k l (has .0) (has .1)) (place-parent ts ls table hopI hop-is (has .0) (edgeI .left) (edgeI .right) refl refl k (has .1));
         }
 
     -- and there is no other parent path
-    pub parent-paired : {π : Path} → List·Memᴰ π (parentPaths table hopI) → (k : ℕ) × (k < arityAt arrays i) × (π ≡ path G (leftAt arrays i k) (rightAt arrays i k))
-    parent-paired {π} m =
-        let r = edge-read i h in
-        let q = parent-place ts ls table hopI hop-is kind-derived (getD (arrays .lefts) i 0) (getD (arrays .rights) i 0) (r .left-is) (r .right-is) m in
-        let l : q .0 < arityAt arrays i = omega (arith, q .1, arguments-long (getD (arrays .lefts) i 0) (r .left-low)) in
-        let x = joined-here (q .0) (q .1) in
-        let a = argument-at (getD (arrays .lefts) i 0) (r .left-low) (q .0) l in
-        let b = argument-at (getD (arrays .rights) i 0) (r .right-low) (q .0) (omega (arith, x .0, arguments-long (getD (arrays .rights) i 0) (r .right-low))) in
-        let j = subst (λ (y : ℕ). T (joined (hopI .older) (leftAt arrays i (q .0)) y)) b (subst (λ (y : ℕ). T (joined (hopI .older) y (getD ys (q .0) 0))) a (x .1)) in
-        (q .0, l, q .2 ∙ ap₂ (path (hopI .older)) a b ∙ path-older (leftAt arrays i (q .0)) (rightAt arrays i (q .0)) (r .walked) j)
+    pub parent-paired : {π : Path} → List·Memᴰ π (parentPaths table hopI) → (k : ℕ) × (k < placesAt arrays i) × (π ≡ path G (leftAt arrays i k) (rightAt arrays i k))
+    parent-paired {π} m = go (edgeI .kind) refl
+      where
+        go : (k : EdgeKind) → edgeI .kind ≡ k → (k : ℕ) × (k < placesAt arrays i) × (π ≡ path G (leftAt arrays i k) (rightAt arrays i k))
+        go Basic is = absurd (basic-parents table hopI is m)
+        go Derived is =
+            let q = parent-place ts ls table hopI hop-is is (edgeI .left) (edgeI .right) refl refl m in
+            let l : q .0 < placesAt arrays i = omega (arith, q .1, edge-read i h .places-is ∙ ap (λ (k : EdgeKind). parentsFor k (length xs)) is) in
+            (q .0, l, q .2 ∙ same-path (q .0) l is (q .1))
 
-    -- what the parent paths of the edge reach is what the paths between its arguments reach
-    pub paired-reached : (b mode : Bool) (p : Pair) → EdgeReached table G b p mode i ↔ ((k : ℕ) × (k < arityAt arrays i) × Reached table b p mode (path G (leftAt arrays i k) (rightAt arrays i k)))
+    -- what the parent paths of the edge reach is what the paths at its places reach
+    pub paired-reached : (b mode : Bool) (p : Pair) → EdgeReached table G b p mode i ↔ ((k : ℕ) × (k < placesAt arrays i) × Reached table b p mode (path G (leftAt arrays i k) (rightAt arrays i k)))
     paired-reached b mode p =
         let r = edge-read i h in
         (λ x. let t = edge-parents ts ls table G (d .sound) b p mode hopI (r .walked) (subst (EdgeReached table G b p mode) (sym (r .count-is)) x) in let q = parent-paired (t .1) in (q .0, q .1, subst (Reached table b p mode) (q .2) (t .2)), λ x. (hopI, r .walked, r .count-is, (path G (leftAt arrays i (x .0)) (rightAt arrays i (x .0)), paired (x .0) (x .1) .is-parent, x .2)))
 
     -- a parent path has edges of lower numbers
-    pub paired-lower : (k : ℕ) → k < arityAt arrays i → (g : Hop) → List·Memᴰ g (path G (leftAt arrays i k) (rightAt arrays i k)) → length (g .older) < i
+    pub paired-lower : (k : ℕ) → k < placesAt arrays i → (g : Hop) → List·Memᴰ g (path G (leftAt arrays i k) (rightAt arrays i k)) → length (g .older) < i
     paired-lower k l g m = omega (arith, older-fewer (parent-hop table hopI (paired k l .is-parent) m), edge-read i h .count-is)
 
 -- ---- the turns over the arguments of one edge
@@ -274,9 +260,9 @@ module _ (arrays : Drawing) (i : ℕ) (b mode : Bool) where
   edge-none pairs rows inside under o =
       record { same = refl; in-order = o; cover = λ c. c; owed = λ ts ls table G d p w. (inl, λ x. ⊎-elim (λ y. y) (λ y. absurd (not-suc-le-zero (y .1))) x) }
 
-  module _ (h : i < arrays .count) (is : getD (arrays .derived) i false ≡ true) (pairs₀ rows₀ inside₀ under₀ : List Bool) where
+  module _ (h : i < arrays .count) (pairs₀ rows₀ inside₀ under₀ : List Bool) where
     -- one argument more
-    pub edge-more : (j : ℕ) (pairs rows inside under pairs′ rows′ inside′ under′ : List Bool) (stops edges : List ℕ) (hops : ℕ) → j < arityAt arrays i → ((ts : List Term) (ls : List Literal) (table : List Term) (G : Graph) → DrawnAs ts ls table G → Trailed (arrays .inb) stops edges hops 0 (path G (leftAt arrays i j) (rightAt arrays i j))) → EdgeTo pairs₀ rows₀ inside₀ under₀ j pairs rows inside under → Wanted (arrays .inb) stops edges 0 hops b mode pairs rows inside under pairs′ rows′ inside′ under′ → EdgeTo pairs₀ rows₀ inside₀ under₀ (j + 1) pairs′ rows′ inside′ under′
+    pub edge-more : (j : ℕ) (pairs rows inside under pairs′ rows′ inside′ under′ : List Bool) (stops edges : List ℕ) (hops : ℕ) → j < placesAt arrays i → ((ts : List Term) (ls : List Literal) (table : List Term) (G : Graph) → DrawnAs ts ls table G → Trailed (arrays .inb) stops edges hops 0 (path G (leftAt arrays i j) (rightAt arrays i j))) → EdgeTo pairs₀ rows₀ inside₀ under₀ j pairs rows inside under → Wanted (arrays .inb) stops edges 0 hops b mode pairs rows inside under pairs′ rows′ inside′ under′ → EdgeTo pairs₀ rows₀ inside₀ under₀ (j + 1) pairs′ rows′ inside′ under′
     edge-more j pairs rows inside under pairs′ rows′ inside′ under′ stops edges hops l trail x w =
         record {
           same = w .same ∙ x .same;
@@ -292,7 +278,7 @@ module _ (arrays : Drawing) (i : ℕ) (b mode : Bool) where
         over G g m = path-hop G (leftAt arrays i j) (rightAt arrays i j) m
 
         low : (ts : List Term) (ls : List Literal) (table : List Term) (G : Graph) → DrawnAs ts ls table G → (g : Hop) → List·Memᴰ g (path G (leftAt arrays i j) (rightAt arrays i j)) → length (g .older) < i
-        low ts ls table G d g m = paired-lower arrays ts ls table G d i h is j l g m
+        low ts ls table G d g m = paired-lower arrays ts ls table G d i h j l g m
 
         to : (ts : List Term) (ls : List Literal) (table : List Term) (G : Graph) → DrawnAs ts ls table G → (p : Pair) → PairWithin 511 p → Owed table G b pairs′ inside′ under′ i p → Owed table G b pairs₀ inside₀ under₀ i p ⊎ Reads table G p (j + 1)
         to ts ls table G d p v y =
@@ -311,13 +297,13 @@ module _ (arrays : Drawing) (i : ℕ) (b mode : Bool) where
             y
 
     -- all of them
-    pub edge-all : (j : ℕ) (pairs rows inside under : List Bool) → j ≡ arityAt arrays i → EdgeTo pairs₀ rows₀ inside₀ under₀ j pairs rows inside under → EdgeSettled arrays i b mode pairs₀ rows₀ inside₀ under₀ pairs rows inside under
+    pub edge-all : (j : ℕ) (pairs rows inside under : List Bool) → j ≡ placesAt arrays i → EdgeTo pairs₀ rows₀ inside₀ under₀ j pairs rows inside under → EdgeSettled arrays i b mode pairs₀ rows₀ inside₀ under₀ pairs rows inside under
     edge-all j pairs rows inside under e x =
         record {
           same = x .same;
           in-order = x .in-order;
           cover = x .cover;
-          owed = λ ts ls table G d p v. let y = x .owed ts ls table G d p v in let r = paired-reached arrays ts ls table G d i h is b mode p in (λ z. ⊎-elim inl (λ q. inr (r .1 (q .0, omega (arith, q .1, e), q .2))) (y .0 z), λ z. y .1 (⊎-elim inl (λ q. let t = r .0 q in inr (t .0, omega (arith, t .1, e), t .2)) z));
+          owed = λ ts ls table G d p v. let y = x .owed ts ls table G d p v in let r = paired-reached arrays ts ls table G d i h b mode p in (λ z. ⊎-elim inl (λ q. inr (r .1 (q .0, omega (arith, q .1, e), q .2))) (y .0 z), λ z. y .1 (⊎-elim inl (λ q. let t = r .0 q in inr (t .0, omega (arith, t .1, e), t .2)) z));
         }
 
 -- ---- what the code needs of the arrays
@@ -331,47 +317,39 @@ pub joins : (arrays : Drawing) (ts : List Term) (ls : List Literal) (table : Lis
 joins arrays ts ls table G d j = record { forest = sound-forest ts ls table G (d .sound); rooted = d .rooted; join = j }
 
 module _ (arrays : Drawing) (i : ℕ) (h : i < arrays .count) where
-  -- the places that the edge leads to are in the arrays
+  -- it has a number of the arrays, and no more parent paths than arguments
   pub record Bounds : Type 0 where
     pub number-low : i < 510
-    pub left-low : getD (arrays .lefts) i 0 < 511
-    pub right-low : getD (arrays .rights) i 0 < 511
-    pub arity-low : arityAt arrays i ≤ 4
+    pub places-low : placesAt arrays i ≤ 4
 
-  -- they are, where a graph is drawn
+  -- where a graph is drawn
   pub bounds : (size : ℕ) → DrawnSome arrays size → Bounds
   bounds size s =
       let d = s .4 in
       let r = edge-read arrays (s .0) (s .1) (s .2) (s .3) d i h in
       record {
         number-low = omega (arith, d .few);
-        left-low = omega (arith, r .left-low, d .small);
-        right-low = omega (arith, r .right-low, d .small);
-        arity-low = d .arity (getD (arrays .lefts) i 0) (r .left-low);
+        places-low = omega (arith, r .places-is, places-few (r .edge .kind) _ (d .arity (r .edge .left) (hop-sound (s .0) (s .1) (s .2) (r .walked) (d .sound) .from-within)));
       }
 
-  module _ (is : getD (arrays .derived) i false ≡ true) (j : ℕ) (l : j < arityAt arrays i) where
+  module _ (j : ℕ) (l : j < placesAt arrays i) where
     -- the paired arguments are joined in the rooted forest
     pub joining : (ts : List Term) (ls : List Literal) (table : List Term) (G : Graph) → Drawn arrays ts ls table G → Joining (arrays .toward) (arrays .by) (arrays .rank) (leftAt arrays i j) (rightAt arrays i j) G
-    joining ts ls table G d = joins arrays ts ls table G d (paired arrays ts ls table G d i h is j l .join)
+    joining ts ls table G d = joins arrays ts ls table G d (paired arrays ts ls table G d i h j l .join)
 
     -- so the path between them is asked for
     pub path-asked : (size : ℕ) → DrawnSome arrays size → (leftAt arrays i j < 511) × (rightAt arrays i j < 511) × ((G : Graph) × Joining (arrays .toward) (arrays .by) (arrays .rank) (leftAt arrays i j) (rightAt arrays i j) G)
     path-asked size s =
-        let p = paired arrays (s .0) (s .1) (s .2) (s .3) (s .4) i h is j l in
+        let p = paired arrays (s .0) (s .1) (s .2) (s .3) (s .4) i h j l in
         (omega (arith, p .left-low, s .4 .small), omega (arith, p .right-low, s .4 .small), (s .3, joining (s .0) (s .1) (s .2) (s .3) (s .4)))
 
     -- and read
     pub path-given : (r : Trail) → ((G : Graph) → Joining (arrays .toward) (arrays .by) (arrays .rank) (leftAt arrays i j) (rightAt arrays i j) G → TrailOf G (leftAt arrays i j) (rightAt arrays i j) r) → (ts : List Term) (ls : List Literal) (table : List Term) (G : Graph) (d : Drawn arrays ts ls table G) → PathRead arrays ts ls table G d (leftAt arrays i j) (rightAt arrays i j) (r .hops) (r .stops) (r .edges)
     path-given r t ts ls table G d =
-        let p = paired arrays ts ls table G d i h is j l in
+        let p = paired arrays ts ls table G d i h j l in
         path-read arrays ts ls table G d (leftAt arrays i j) (rightAt arrays i j) (p .left-low) (p .join) r (t G (joining ts ls table G d))
 
 -- ---- the pass over the edges
-
--- an edge whose parent paths are asked for is derived
-pub asked-derived : (x y : Bool) → (x && y) ≡ true → x ≡ true
-asked-derived x y e = passed x (and-left x y (passes (x && y) e))
 
 -- what is reached without a path's own factors is reached with them
 pub reached-more : {table : List Term} {b : Bool} {p : Pair} {mode : Bool} {π : Path} → Reached table b p mode π → Reached table b p true π
@@ -395,21 +373,6 @@ owed-split table G b pairs inside under n i p e = (to, from)
     from (inl (inl m)) = inl m
     from (inl (inr (k, l, x))) = inr (k, omega (arith, l, e), x)
     from (inr x) = inr (i, omega (arith, e), x)
-
--- the kind of a hop stands under its edge's number
-hop-kind : (lefts rights : List ℕ) (inb derived : List Bool) (G : Graph) → Each (EdgeAt lefts rights inb derived) G → {h : Hop} → HopOf h G → getD derived (length (h .older)) false ≡ isDerived (h .kind)
-hop-kind lefts rights inb derived G p {h} of =
-    let r = hop-each (EdgeAt lefts rights inb derived) of p in
-    ⊎-elim (λ q. r .1 .kind-at ∙ ap (λ (g : Hop). isDerived (g .kind)) (sym q)) (λ q. r .1 .kind-at ∙ ap (λ (g : Hop). isDerived (g .kind)) (sym q)) (r .2)
-
--- an edge that is not derived has no parent path
-basic-nothing : (lefts rights : List ℕ) (inb derived : List Bool) (table : List Term) (G : Graph) → Each (EdgeAt lefts rights inb derived) G → (b mode : Bool) (p : Pair) (i : ℕ) → getD derived i false ≡ false → EdgeReached table G b p mode i → ⊥
-basic-nothing lefts rights inb derived table G d b mode p i e x =
-    basic-parents table (x .0) (go (x .0 .kind) (sym (hop-kind lefts rights inb derived G d (x .1)) ∙ ap (λ (k : ℕ). getD derived k false) (x .2) ∙ e)) (x .3 .1)
-  where
-    go : (k : EdgeKind) → isDerived k ≡ false → k ≡ Basic
-    go Basic q = refl
-    go Derived q = let z : _≡_ {A = ℕ} 0 1 = cc in absurd (omega arith)
 
 module _ (arrays : Drawing) (b : Bool) where
   -- the edges from number i on are read
@@ -454,28 +417,32 @@ module _ (arrays : Drawing) (b : Bool) where
         settle-turn pairs rows inside under refl (x .in-order) (λ c. c)
         (λ ts ls table G d p w. (inl, λ z. ⊎-elim (λ y. y) (λ q. absurd (⊎-elim (λ a. subst T e (a .0)) (λ a. subst T u (a .0)) q)) z))
 
-    -- an edge that is not derived
-    settle-basic : getD (arrays .derived) (n - 1) false ≡ false → SettledTo pairs₀ rows₀ inside₀ under₀ (n - 1) pairs rows inside under
-    settle-basic e =
+    -- an edge without a parent path
+    settle-bare : (0 < placesAt arrays (n - 1) → ⊥) → SettledTo pairs₀ rows₀ inside₀ under₀ (n - 1) pairs rows inside under
+    settle-bare e =
         settle-turn pairs rows inside under refl (x .in-order) (λ c. c)
-        (λ ts ls table G d p w. (inl, λ z. ⊎-elim (λ y. y) (λ q. absurd (⊎-elim (λ a. basic-nothing (arrays .lefts) (arrays .rights) (arrays .inb) (arrays .derived) table G (d .edges) b true p (n - 1) e (a .1)) (λ a. basic-nothing (arrays .lefts) (arrays .rights) (arrays .inb) (arrays .derived) table G (d .edges) b false p (n - 1) e (a .1)) q)) z))
+        (λ ts ls table G d p w. (inl, λ z. ⊎-elim (λ y. y) (λ q. absurd (⊎-elim (λ a. none ts ls table G d true p (a .1)) (λ a. none ts ls table G d false p (a .1)) q)) z))
+      where
+        none : (ts : List Term) (ls : List Literal) (table : List Term) (G : Graph) → Drawn arrays ts ls table G → (mode : Bool) (p : Pair) → EdgeReached table G b p mode (n - 1) → ⊥
+        none ts ls table G d mode p r = let t = paired-reached arrays ts ls table G d (n - 1) (omega (arith, x .within)) b mode p .0 r in e (omega (arith, t .1))
 
     -- an edge whose parent paths are asked for
-    pub settle-asked : (pairs′ rows′ inside′ under′ : List Bool) → (getD (arrays .derived) (n - 1) false && (getD inside (n - 1) false || getD under (n - 1) false)) ≡ true → EdgeSettled arrays (n - 1) b (getD inside (n - 1) false) pairs rows inside under pairs′ rows′ inside′ under′ → SettledTo pairs₀ rows₀ inside₀ under₀ (n - 1) pairs′ rows′ inside′ under′
+    pub settle-asked : (pairs′ rows′ inside′ under′ : List Bool) → (ltb 0 (placesAt arrays (n - 1)) && (getD inside (n - 1) false || getD under (n - 1) false)) ≡ true → EdgeSettled arrays (n - 1) b (getD inside (n - 1) false) pairs rows inside under pairs′ rows′ inside′ under′ → SettledTo pairs₀ rows₀ inside₀ under₀ (n - 1) pairs′ rows′ inside′ under′
     settle-asked pairs′ rows′ inside′ under′ e s = go (getD inside (n - 1) false) refl e s
       where
-        go : (y : Bool) → getD inside (n - 1) false ≡ y → (getD (arrays .derived) (n - 1) false && (y || getD under (n - 1) false)) ≡ true → EdgeSettled arrays (n - 1) b y pairs rows inside under pairs′ rows′ inside′ under′ → SettledTo pairs₀ rows₀ inside₀ under₀ (n - 1) pairs′ rows′ inside′ under′
+        go : (y : Bool) → getD inside (n - 1) false ≡ y → (ltb 0 (placesAt arrays (n - 1)) && (y || getD under (n - 1) false)) ≡ true → EdgeSettled arrays (n - 1) b y pairs rows inside under pairs′ rows′ inside′ under′ → SettledTo pairs₀ rows₀ inside₀ under₀ (n - 1) pairs′ rows′ inside′ under′
         go true q e s = settle-whole pairs′ rows′ inside′ under′ q s
         go false q e s =
             let u = getD under (n - 1) false in
-            settle-under pairs′ rows′ inside′ under′ q (passed u (and-right (getD (arrays .derived) (n - 1) false) u (passes (getD (arrays .derived) (n - 1) false && u) e))) s
+            let any = ltb 0 (placesAt arrays (n - 1)) in
+            settle-under pairs′ rows′ inside′ under′ q (passed u (and-right any u (passes (any && u) e))) s
 
     -- one whose are not
-    pub settle-left : (getD (arrays .derived) (n - 1) false && (getD inside (n - 1) false || getD under (n - 1) false)) ≡ false → SettledTo pairs₀ rows₀ inside₀ under₀ (n - 1) pairs rows inside under
-    settle-left e = go (getD (arrays .derived) (n - 1) false) refl (getD inside (n - 1) false) refl e
+    pub settle-left : (ltb 0 (placesAt arrays (n - 1)) && (getD inside (n - 1) false || getD under (n - 1) false)) ≡ false → SettledTo pairs₀ rows₀ inside₀ under₀ (n - 1) pairs rows inside under
+    settle-left e = go (ltb 0 (placesAt arrays (n - 1))) refl (getD inside (n - 1) false) refl e
       where
-        go : (x : Bool) → getD (arrays .derived) (n - 1) false ≡ x → (y : Bool) → getD inside (n - 1) false ≡ y → (x && (y || getD under (n - 1) false)) ≡ false → SettledTo pairs₀ rows₀ inside₀ under₀ (n - 1) pairs rows inside under
-        go false q y r e = settle-basic q
+        go : (x : Bool) → ltb 0 (placesAt arrays (n - 1)) ≡ x → (y : Bool) → getD inside (n - 1) false ≡ y → (x && (y || getD under (n - 1) false)) ≡ false → SettledTo pairs₀ rows₀ inside₀ under₀ (n - 1) pairs rows inside under
+        go false q y r e = settle-bare (λ h. subst T q (lt→ltb 0 (placesAt arrays (n - 1)) h))
         go true q false r e = settle-unmarked r e
         go true q true r e = let z : _≡_ {A = ℕ} 0 1 = cc in absurd (omega arith)
 

@@ -3,8 +3,8 @@ use mathlib.Core.Bool.{Bool, true, false}
 use mathlib.Core.List.{List}
 use mathlib.Core.Logic.{_⊎_, _↔_}
 use mathlib.Core.Path.{_≡_}
-use Prim.Native.Nat.{ℕ, _*_, _≤_, _<_}
-use lib.ListN.{length, getD, take, drop}
+use Prim.Native.Nat.{ℕ, _+_, _*_, _≤_, _<_}
+use lib.ListN.{length, getD}
 use Rattle.tables.specs.Words.{Pair}
 use Rattle.tables.specs.Terms.{Term, termAt, LowerArguments}
 use Rattle.tables.specs.LiteralTable.{Literal}
@@ -15,7 +15,6 @@ use Rattle.closure.specs.Graph.{Graph}
 use Rattle.closure.specs.Forests.{Each}
 use Rattle.graphs.specs.Rooting.{RootedBy}
 use Rattle.closure.proofs.Walking.Invariant.{SoundGraph}
-use Rattle.marking.specs.declared.drawing.Drawing.{Drawing}
 use Rattle.marking.specs.Marks.{isB, PairWithin, PairMarked, Covered, InOrder, EdgeReached, Owed}
 
 -- the edge is derived
@@ -23,35 +22,56 @@ abbrev pub isDerived : EdgeKind → Bool
 isDerived Basic = false
 isDerived Derived = true
 
--- an edge stands under its number: how many edges are older
-pub record EdgeAt (lefts rights : List ℕ) (inb derived : List Bool) (G : Graph) (e : Edge) : Type 0 where
+-- the parts of an edge stand under its number: how many edges are older
+pub record PartsAt (lefts rights : List ℕ) (inb derived : List Bool) (G : Graph) (e : Edge) : Type 0 where
   pub left-at : getD lefts (length G) 0 ≡ e .left
   pub right-at : getD rights (length G) 0 ≡ e .right
   pub colour-at : getD inb (length G) false ≡ isB (e .colour)
   pub kind-at : getD derived (length G) false ≡ isDerived (e .kind)
 
--- The arrays hold a graph as the steps make it, rooted, and for each vertex its arity and its arguments, four places for each.
+-- how many parent paths an edge has whose ends have n arguments
+abbrev pub parentsFor : EdgeKind → ℕ → ℕ
+parentsFor Basic n = 0
+parentsFor Derived n = n
+
+-- what the clause layer asks of an edge stands under its number: its colour, how many parent paths it has, and where they begin and end
+pub record EdgeAt (table : List Term) (inb : List Bool) (places parents : List ℕ) (G : Graph) (e : Edge) : Type 0 where
+  pub colour-at : getD inb (length G) false ≡ isB (e .colour)
+  pub places-at : getD places (length G) 0 ≡ parentsFor (e .kind) (length (termAt table (e .left) .arguments))
+  pub left-at : (k : ℕ) → k < getD places (length G) 0 → getD parents (8 * length G + k) 0 ≡ getD (termAt table (e .left) .arguments) k 0
+  pub right-at : (k : ℕ) → k < getD places (length G) 0 → getD parents (8 * length G + 4 + k) 0 ≡ getD (termAt table (e .right) .arguments) k 0
+
+-- The arrays that the clause layer is lent. For each vertex the way to its root; for each edge whether its colour is B, how many parent paths it has,
+-- and their ends, four places for those at the left end's arguments and four for those at the right end's.
+pub record Drawing : Type 0 where
+  pub toward : List ℕ
+  pub by : List ℕ
+  pub rank : List ℕ
+  pub inb : List Bool
+  pub places : List ℕ
+  pub parents : List ℕ
+  pub count : ℕ
+
+-- the arrays, lent one by one
+abbrev pub drawing : List ℕ → List ℕ → List ℕ → List Bool → List ℕ → List ℕ → ℕ → Drawing
+drawing toward by rank inb places parents count =
+    record { toward = toward; by = by; rank = rank; inb = inb; places = places; parents = parents; count = count }
+
+-- The arrays hold a graph as the steps make it, rooted, and the ends of its edges' parent paths.
 pub record Drawn (arrays : Drawing) (ts : List Term) (ls : List Literal) (table : List Term) (G : Graph) : Type 0 where
   pub sound : SoundGraph ts ls table G
   pub lower : LowerArguments table
   pub small : length table ≤ 511
   pub counted : length G ≡ arrays .count
   pub few : arrays .count ≤ 510
-  pub long : length (arrays .args) ≡ 2044
-  pub arity : (v : ℕ) → v < length table → getD (arrays .arities) v 0 ≤ 4
-  pub arguments : (v : ℕ) → v < length table → termAt table v .arguments ≡ take (getD (arrays .arities) v 0) (drop (4 * v) (arrays .args))
+  pub arity : (v : ℕ) → v < length table → length (termAt table v .arguments) ≤ 4
   pub rooted : RootedBy G (arrays .toward) (arrays .by) (arrays .rank)
-  pub edges : Each (EdgeAt (arrays .lefts) (arrays .rights) (arrays .inb) (arrays .derived)) G
+  pub edges : Each (EdgeAt table (arrays .inb) (arrays .places) (arrays .parents)) G
 
 -- they hold some graph, and a square of so many marks has a row for each of its vertices
 abbrev pub DrawnSome : Drawing → ℕ → Type 0
 DrawnSome arrays size =
     (ts : List Term) × (ls : List Literal) × (table : List Term) × (G : Graph) × Drawn arrays ts ls table G × (511 * length table ≤ size)
-
--- the arrays, lent one by one
-abbrev pub drawing : List ℕ → List ℕ → List ℕ → List ℕ → List ℕ → List ℕ → List ℕ → List Bool → List Bool → ℕ → Drawing
-drawing args arities toward by rank lefts rights inb derived count =
-    record { args = args; arities = arities; toward = toward; by = by; rank = rank; lefts = lefts; rights = rights; inb = inb; derived = derived; count = count }
 
 -- the parent paths of edge number i are read
 pub record EdgeSettled (arrays : Drawing) (i : ℕ) (b whole : Bool) (pairs rows inside under pairs′ rows′ inside′ under′ : List Bool) : Type 0 where

@@ -11,7 +11,7 @@ ghost use lib.ListN.{length, set, replicate};
 ghost use Rattle.closure.specs.Forests.{Each};
 ghost use Rattle.graphs.specs.Layout.{newestFirst};
 ghost use Rattle.marking.specs.Marks.{isB};
-ghost use Rattle.marking.specs.Drawn.{isDerived, EdgeAt};
+ghost use Rattle.marking.specs.Drawn.{isDerived, PartsAt};
 
 // What the edges hold, a column for each part, under the edge's number.
 pub struct Columns {
@@ -70,7 +70,7 @@ impl Columns {
 // The first count records of a lent list, each under its number.
 pub fn columns_of(edges: &[Edge], count: usize) -> Columns
     requires { ⌜ (count ≤ length (now edges)) × (count ≤ 510) ⌝ }
-    ensures { λ r. ⌜ Each (EdgeAt (r .lefts) (r .rights) (r .inb) (r .derived)) (newestFirst count (now (edges .entry))) ⌝ }
+    ensures { λ r. ⌜ Each (PartsAt (r .lefts) (r .rights) (r .inb) (r .derived)) (newestFirst count (now (edges .entry))) ⌝ }
 {
     let mut c = Columns::none();
     let mut i = 0;

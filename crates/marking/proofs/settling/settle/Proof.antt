@@ -1,17 +1,18 @@
 -- `settle` meets its contract: what is owed stays the same while the marked edges are read, the newest first.
 use mathlib.Core.Path.{sym, _∙_}
 use native.Mathlib.Omega.{arith}
-use Rattle.marking.proofs.Owing.{drawn-kept, SettledTo, settle-none, asked-derived, settle-asked, settle-left, settle-all}
+use Rattle.marking.specs.Drawn.{drawing}
+use Rattle.marking.proofs.Owing.{drawn-kept, SettledTo, settle-none, settle-asked, settle-left, settle-all}
 use borrow.Author.Needs.{needs}
 use Rattle.marking.proofs.settling.settle.Statement.{statement}
 use Rattle.marking.proofs.settling.settle.Tie as tie
 
 abbrev Inv-loop : tie.InvT-loop
-Inv-loop b pairs₀ rows₀ inside₀ under₀ arrays i₀ pairs rows inside under i =
-    SettledTo arrays b pairs₀ rows₀ inside₀ under₀ i pairs rows inside under
+Inv-loop toward by rank inb places parents count b pairs₀ rows₀ inside₀ under₀ i₀ pairs rows inside under i =
+    SettledTo (drawing toward by rank inb places parents count) b pairs₀ rows₀ inside₀ under₀ i pairs rows inside under
 
 abbrev μ-loop : tie.MeasureT-loop
-μ-loop b pairs₀ rows₀ inside₀ under₀ arrays i₀ pairs rows inside under i = i
+μ-loop toward by rank inb places parents count b pairs₀ rows₀ inside₀ under₀ i₀ pairs rows inside under i = i
 
 loop-holds : tie.Need-loop-holds Inv-loop μ-loop
 loop-holds c = settle-none _ _ _ _ _ _ (c .before .pre .1)
@@ -33,14 +34,14 @@ asked-requires c κs = search needs
 
 settle-edge-requires : tie.Need-settle-edge-requires Inv-loop μ-loop
 settle-edge-requires c κs =
-    let x = c .before .before .before .before .before .before .before .before .before .before .before .before .before .before .before .before .before .before .before .before .loop .inv in
-    (drawn-kept _ _ _ (x .same) (c .before .before .before .before .before .before .before .before .before .before .before .before .before .before .before .before .before .before .before .before .before .before .pre .0), (x .in-order, (omega (arith, x .within, c .before .before .before .before .before .before .before .before .before .before .before .before .before .before .before .before .before .before .before .loop-test .taken), asked-derived _ _ (sym (c .before .before .before .before .before .before .before .before .before .before .before .before .before .before .before .asked .ensures) ∙ c .before .before .before .before .before .before .before .before .before .before .before .before .before .before .if1 .taken))))
+    let x = c .before .before .before .before .before .before .before .before .before .before .loop .inv in
+    (drawn-kept _ _ _ (x .same) (c .before .before .before .before .before .before .before .before .before .before .before .before .pre .0), (x .in-order, omega (arith, x .within, c .before .before .before .before .before .before .before .before .before .loop-test .taken)))
 
 loop-less : tie.Need-loop-less Inv-loop μ-loop
-loop-less c = omega (arith, c .before .before .before .before .before .before .before .before .before .before .before .before .before .before .before .before .before .before .before .before .before .before .loop-test .taken)
+loop-less c = omega (arith, c .before .before .before .before .before .before .before .before .before .before .before .before .loop-test .taken)
 
 loop-again : tie.Need-loop-again Inv-loop μ-loop
-loop-again c = settle-asked _ _ _ _ _ _ _ _ _ _ _ (omega (arith, c .before .before .before .before .before .before .before .before .before .before .before .before .before .before .before .before .before .before .before .before .before .before .loop-test .taken)) (c .before .before .before .before .before .before .before .before .before .before .before .before .before .before .before .before .before .before .before .before .before .before .before .loop .inv) _ _ _ _ (sym (c .before .before .before .before .before .before .before .before .before .before .before .before .before .before .before .before .before .before .asked .ensures) ∙ c .before .before .before .before .before .before .before .before .before .before .before .before .before .before .before .before .before .if1 .taken) (c .before .before .settle-edge .ensures)
+loop-again c = settle-asked _ _ _ _ _ _ _ _ _ _ _ (omega (arith, c .before .before .before .before .before .before .before .before .before .before .before .before .loop-test .taken)) (c .before .before .before .before .before .before .before .before .before .before .before .before .before .loop .inv) _ _ _ _ (sym (c .before .before .before .before .before .before .before .before .asked .ensures) ∙ c .before .before .before .before .before .before .before .if1 .taken) (c .before .before .settle-edge .ensures)
 
 loop-less-2 : tie.Need-loop-less-2 Inv-loop μ-loop
 loop-less-2 c = omega (arith, c .before .before .before .before .before .loop-test .taken)
