@@ -19,9 +19,8 @@ use Rattle.closure.proofs.Walking.Parents.{path-hop}
 use Rattle.clauses.specs.Clauses.{between, Conclusion, differs, falsum}
 use Rattle.clauses.specs.Premises.{premises, Premise}
 use Rattle.clauses.specs.Records.{amongPairs, ascending, clauseRecord, conclusionRecord}
-use Rattle.marking.specs.declared.drawing.Drawing.{Drawing}
 use Rattle.marking.specs.Marks.{Reached, PairWithin, PairMarked, Marked, Covered, Owed, Trailed, Wanted, OuterWanted}
-use Rattle.marking.specs.Drawn.{Drawn, Settled}
+use Rattle.marking.specs.Drawn.{Drawing, Drawn, Settled}
 use Rattle.summing.specs.Writing.{putRecord, putRecords, marked, rowPairs, PremisesOut, AllOut}
 use Rattle.summing.specs.Written.{clauseOf, clauseOut, RecordsPut, Clear, Blank, Readable, ReadableSome, ClausesPut, Over, Concluding, notAt, LastPut}
 use Rattle.marking.proofs.Reached.{reached-premise, premise-reached, wants-owed, owed-kept, reached-owed}

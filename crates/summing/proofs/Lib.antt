@@ -3,3 +3,4 @@ pub mod RecordsOut
 pub mod ClausesOut
 pub mod Stretching
 pub mod Summing
+pub mod BothSides

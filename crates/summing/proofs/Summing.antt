@@ -28,9 +28,8 @@ use Rattle.clauses.specs.Clauses.{between, Clause, equals, differs, falsum}
 use Rattle.clauses.specs.Premises.{premises, pathClauses}
 use Rattle.clauses.specs.Reading.{Stretches, stretches, endOf, notMiddle, clausesIn, outerPremises, readA, readBetween}
 use Rattle.clauses.specs.Records.{ascending, concluding, isLast, firstAlone, inOrder, recordsOf, clauseRecords}
-use Rattle.marking.specs.declared.drawing.Drawing.{Drawing}
 use Rattle.marking.specs.Marks.{Reached, across, along, PairWithin, placeOf, PairMarked, RowsOf, Trailed, done, step}
-use Rattle.marking.specs.Drawn.{DrawnSome}
+use Rattle.marking.specs.Drawn.{Drawing, DrawnSome}
 use Rattle.summing.specs.Writing.{marked}
 use Rattle.summing.specs.Written.{clauseOf, clauseOut, RecordsPut, Readable, FirstB, LastB, Concluding, notAt, LastPut, Clear, Blank, ClausesPut, Asking, AskingSome, sideOf, AllPut, Summarised}
 use Rattle.clauses.proofs.Pieces.{equals-kind, middle-kind, endOf-none, endOf-hop, notMiddle-none, notMiddle-hop, stretches-none, first-none, first-some, records-standing, read-B, read-A}
@@ -339,18 +338,6 @@ module _ (arrays : Drawing) (n : ℕ) (colours : List ℕ) (s t : ℕ) (small : 
   abbrev SummaryPut : Side → List ℕ → ℕ → List ℕ → Type 0
   SummaryPut X out k out′ = (ts : List Term) (ls : List Literal) (table : List Term) (G : Graph) → AskingHere ts ls table G → RecordsPut (clauseRecords n (readBetween ts ls table G X s t)) 0 out k out′
 
-  -- counted over another buffer, they are too many for this one
-  pub summary-counted : (X : Side) (none none′ out : List ℕ) (k : ℕ) → SummaryPut X none k none′ → length out / 8 < k → Summarised arrays n colours s t X out k out
-  summary-counted X none none′ out k put h = record {
-    records = λ ts ls table G x. let p = put ts ls table G x in record { count = omega (arith, p .count); bytes = λ r. absurd (omega (arith, p .count, h, r)); kept = λ r. refl };
-  }
-
-  -- or they have room, and are written
-  pub summary-written : (X : Side) (none none′ out out′ : List ℕ) (k k′ : ℕ) → SummaryPut X none k none′ → k ≤ length out / 8 → SummaryPut X out k′ out′ → Summarised arrays n colours s t X out k′ out′
-  summary-written X none none′ out out′ k k′ put h write = record {
-    records = λ ts ls table G x. let p = put ts ls table G x in let q = write ts ls table G x in record { count = omega (arith, q .count); bytes = λ r. q .bytes; kept = λ r. absurd (omega (arith, p .count, h, r)) };
-  }
-
   -- the path between the sides
   pub sides-asked : SomeAsking → (s < 511) × (t < 511) × ((G : Graph) × Joining (arrays .toward) (arrays .by) (arrays .rank) s t G)
   sides-asked a =
@@ -404,10 +391,6 @@ module _ (arrays : Drawing) (n : ℕ) (colours : List ℕ) (s t : ℕ) (small : 
 
         pub clear-A : SomeAsking → Clear found₂
         clear-A a = put-clear (a .0) (a .1) (a .2) (a .3) (a .4) .1
-
-  -- the side under another name
-  pub side-named : (out out′ : List ℕ) (r : ℕ) (b b′ : Bool) → b′ ≡ b → Summarised arrays n colours s t (sideOf b) out r out′ → Summarised arrays n colours s t (sideOf b′) out r out′
-  side-named out out′ r b b′ e x = subst (λ (y : Bool). Summarised arrays n colours s t (sideOf y) out r out′) (sym e) x
 
 -- ---- what comes back, and the bytes
 

@@ -6,7 +6,7 @@ use mathlib.Core.Path.{_≡_}
 use Prim.Native.Nat.{ℕ, _+_, _*_, _≤_, _<_}
 use lib.Dec.{T, ltb, leb}
 use lib.ListN.{length, getD}
-use Rattle.tables.specs.Words.{Pair}
+use Rattle.tables.specs.Words.{Pair, keep, pairsBelow}
 use Rattle.tables.specs.Terms.{Term}
 use Rattle.tables.specs.LiteralTable.{Literal}
 use Rattle.tables.specs.declared.Side.{Side}
@@ -18,10 +18,11 @@ use Rattle.clauses.specs.Clauses.{between, Clause, Conclusion, equals, differs,
 use Rattle.clauses.specs.Premises.{premises, Premise}
 use Rattle.clauses.specs.Records.{ascending, recordsOf, clauseRecords}
 use Rattle.clauses.specs.Reading.{readBetween}
-use Rattle.marking.specs.declared.drawing.Drawing.{Drawing}
+use Rattle.graphs.specs.declared.paths.Trail.{Trail}
+use Rattle.graphs.specs.Trails.{Joining, TrailOf}
 use Rattle.marking.specs.Marks.{Reached, PairWithin, PairMarked, Covered, Trailed}
-use Rattle.marking.specs.Drawn.{Drawn}
-use Rattle.summing.specs.Writing.{putRecords}
+use Rattle.marking.specs.Drawn.{Drawing, Drawn}
+use Rattle.summing.specs.Writing.{putRecords, marked}
 
 -- the clause that concludes p, its premises in ascending order
 unfoldable pub clauseOf : ℕ → List Term → Graph → Pair → Clause
@@ -79,6 +80,16 @@ pub record LastB (colours stops : List ℕ) (lo hops r : ℕ) : Type 0 where
   pub outside : (k : ℕ) → r < k → k ≤ hops → getD colours (getD stops k 0) 0 < 2
   pub found : lo < r → 2 ≤ getD colours (getD stops r 0) 0
 
+-- where the middle stretch of a trail begins: in A at its first stop in B, in B at its start
+abbrev pub MiddleFrom : List ℕ → List ℕ → ℕ → ℕ → Bool → Type 0
+MiddleFrom colours stops hops r true = FirstB colours stops hops r
+MiddleFrom colours stops hops r false = r ≡ 0
+
+-- where it ends: in A at its last stop in B, in B at its end
+abbrev pub MiddleTo : List ℕ → List ℕ → ℕ → ℕ → ℕ → Bool → Type 0
+MiddleTo colours stops lo hops r true = LastB colours stops lo hops r
+MiddleTo colours stops lo hops r false = r ≡ hops
+
 -- the hops are hops of the graph
 abbrev pub Over : Graph → Path → Type 0
 Over G π = (h : Hop) → List·Memᴰ h π → HopOf h G
@@ -98,6 +109,13 @@ pub record LastPut (arrays : Drawing) (n : ℕ) (stops edges : List ℕ) (lo hi 
   pub same : length out′ ≡ length out
   pub sized : length found′ ≡ length found
 
+-- the clauses of the pairs that are concluded are written from the start, and in A the last clause behind them
+abbrev pub ReadingPut : Drawing → ℕ → List Bool → List ℕ → List ℕ → ℕ → ℕ → ℕ → List Bool → List ℕ → ℕ → List Bool → List ℕ → Bool → Type 0
+ReadingPut arrays n pairs stops edges lo hi hops found out r found′ out′ true =
+    (k : ℕ) × (found₁ : List Bool) × (out₁ : List ℕ) × ClausesPut arrays n (PairMarked pairs) (keep (marked pairs) (pairsBelow n)) 261121 0 found out k found₁ out₁ × LastPut arrays n stops edges lo hi hops k found₁ out₁ r found′ out′
+ReadingPut arrays n pairs stops edges lo hi hops found out r found′ out′ false =
+    ClausesPut arrays n (PairMarked pairs) (keep (marked pairs) (pairsBelow n)) 261121 0 found out r found′ out′
+
 -- what is asked of the writer of a summary: the arrays hold a graph over n terms that joins s and t, and the colours of 2 and more are those with B
 pub record Asking (arrays : Drawing) (n : ℕ) (colours : List ℕ) (s t : ℕ) (ts : List Term) (ls : List Literal) (table : List Term) (G : Graph) : Type 0 where
   pub drawn : Drawn arrays ts ls table G
@@ -111,6 +129,19 @@ pub record Asking (arrays : Drawing) (n : ℕ) (colours : List ℕ) (s t : ℕ) 
 abbrev pub AskingSome : Drawing → ℕ → List ℕ → ℕ → ℕ → Type 0
 AskingSome arrays n colours s t =
     (ts : List Term) × (ls : List Literal) × (table : List Term) × (G : Graph) × Asking arrays n colours s t ts ls table G
+
+-- the trail is the path between s and t, cut at its middle stretch, and the pairs that its clauses conclude are marked
+pub record Concluded (arrays : Drawing) (n : ℕ) (colours : List ℕ) (s t : ℕ) (r : Trail) (lo hi : ℕ) (pairs rows : List Bool) (ina : Bool) : Type 0 where
+  pub asking : AskingSome arrays n colours s t
+  pub given : (G : Graph) → Joining (arrays .toward) (arrays .by) (arrays .rank) s t G → TrailOf G s t r
+  pub from : MiddleFrom colours (r .stops) (r .hops) lo ina
+  pub to : MiddleTo colours (r .stops) lo (r .hops) hi ina
+  pub concluding : Concluding arrays (r .stops) (r .edges) lo hi (r .hops) pairs rows
+
+-- it is so for some disequality
+abbrev pub ConcludedSome : Drawing → ℕ → Trail → ℕ → ℕ → List Bool → List Bool → Bool → Type 0
+ConcludedSome arrays n r lo hi pairs rows ina =
+    (colours : List ℕ) × (s : ℕ) × (t : ℕ) × Concluded arrays n colours s t r lo hi pairs rows ina
 
 -- the side of the disequality: A where the flag is set
 abbrev pub sideOf : Bool → Side

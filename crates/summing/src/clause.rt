@@ -1,21 +1,27 @@
 // Clauses as records: the premises of each, and then its conclusion, in ascending order.
 use super::writing;
-use graphs::paths;
-use marking::drawing::Drawing;
-use marking::marks;
-use marking::settling;
+use graphs::paths::path;
+use marking::marks::want_along;
+use marking::settling::settle;
 ghost use mathlib.Core.List.{_∷_, []};
 ghost use mathlib.Core.Path.{_≡_};
 ghost use Prim.Native.Nat.{_+_, _*_, _^_, _≤_, _<_};
 ghost use lib.ListN.{length};
 ghost use Rattle.tables.specs.Words.{pair, keep, pairsBelow};
 ghost use Rattle.marking.specs.Marks.{PairMarked, Covered};
+ghost use Rattle.marking.specs.Drawn.{drawing};
 ghost use Rattle.summing.specs.Writing.{marked, rowPairs};
 ghost use Rattle.summing.specs.Written.{Blank, ReadableSome, ClausesPut};
 
 // One clause: the premises of the path between u and v, and then the pair itself.
-fn clause_out(
-    d: Drawing,
+fn clause_out<'a>(
+    toward: &'a [u16; 511],
+    by: &'a [u16; 511],
+    rank: &'a [u16; 511],
+    inb: &'a [bool; 510],
+    places: &'a [u8; 510],
+    parents: &'a [u16; 4080],
+    count: usize,
     vertices: u16,
     u: u16,
     v: u16,
@@ -23,19 +29,18 @@ fn clause_out(
     out: &mut [u8],
     at: usize,
 ) -> usize
-    requires { ⌜ ReadableSome d vertices (λ p. p ≡ pair u v) ⌝ }
+    requires { ⌜ ReadableSome (drawing (now toward) (now by) (now rank) (now inb) (now places) (now parents) count) vertices (λ p. p ≡ pair u v) ⌝ }
     requires { ⌜ (u < v) × (v < vertices) × (vertices ≤ 511) × (at + 261122 < 2 ^ 60) ⌝ }
     requires { ⌜ Blank vertices (now found) ⌝ }
-    ensures { λ r. ⌜ ClausesPut d vertices (λ p. p ≡ pair u v) (pair u v ∷ []) 1 at (now (found .entry)) (now (out .entry)) r (now (found .exit)) (now (out .exit)) ⌝ }
+    ensures { λ r. ⌜ ClausesPut (drawing (now (toward .entry)) (now (by .entry)) (now (rank .entry)) (now (inb .entry)) (now (places .entry)) (now (parents .entry)) count) vertices (λ p. p ≡ pair u v) (pair u v ∷ []) 1 at (now (found .entry)) (now (out .entry)) r (now (found .exit)) (now (out .exit)) ⌝ }
 {
-    let inb = d.inb;
-    let t = paths::path(&d.toward, &d.by, &d.rank, u, v);
+    let t = path(toward, by, rank, u, v);
     let hops = t.hops;
-    let mut rows = [false; 511];
-    let mut wanted = [false; 510];
-    let mut unused = [false; 510];
-    marks::want_along(
-        &inb,
+    let rows = &mut [false; 511];
+    let inside = &mut [false; 510];
+    let under = &mut [false; 510];
+    want_along(
+        inb,
         &t.stops,
         &t.edges,
         0,
@@ -43,19 +48,38 @@ fn clause_out(
         true,
         true,
         found,
-        &mut rows,
-        &mut wanted,
-        &mut unused,
+        rows,
+        inside,
+        under,
     );
-    settling::settle(d, true, found, &mut rows, &mut wanted, &mut unused);
-    let n = writing::premises_out(found, &rows, vertices, out, at);
+    settle(
+        toward,
+        by,
+        rank,
+        inb,
+        places,
+        parents,
+        count,
+        true,
+        found,
+        rows,
+        inside,
+        under,
+    );
+    let n = writing::premises_out(found, rows, vertices, out, at);
     writing::put(out, n, 2, u, v);
     n + 1
 }
 
 // The clauses of the marked pairs of one row, ascending.
-fn clauses_row(
-    d: Drawing,
+fn clauses_row<'a>(
+    toward: &'a [u16; 511],
+    by: &'a [u16; 511],
+    rank: &'a [u16; 511],
+    inb: &'a [bool; 510],
+    places: &'a [u8; 510],
+    parents: &'a [u16; 4080],
+    count: usize,
     vertices: u16,
     u: u16,
     pairs: &[bool],
@@ -63,16 +87,30 @@ fn clauses_row(
     out: &mut [u8],
     at: usize,
 ) -> usize
-    requires { ⌜ ReadableSome d vertices (PairMarked (now pairs)) ⌝ }
+    requires { ⌜ ReadableSome (drawing (now toward) (now by) (now rank) (now inb) (now places) (now parents) count) vertices (PairMarked (now pairs)) ⌝ }
     requires { ⌜ (u < vertices) × (vertices ≤ 511) × (511 * vertices ≤ length (now pairs)) × (at + 261122 * 512 < 2 ^ 60) ⌝ }
     requires { ⌜ Blank vertices (now found) ⌝ }
-    ensures { λ r. ⌜ ClausesPut d vertices (PairMarked (now (pairs .entry))) (keep (marked (now (pairs .entry))) (rowPairs vertices u)) 511 at (now (found .entry)) (now (out .entry)) r (now (found .exit)) (now (out .exit)) ⌝ }
+    ensures { λ r. ⌜ ClausesPut (drawing (now (toward .entry)) (now (by .entry)) (now (rank .entry)) (now (inb .entry)) (now (places .entry)) (now (parents .entry)) count) vertices (PairMarked (now (pairs .entry))) (keep (marked (now (pairs .entry))) (rowPairs vertices u)) 511 at (now (found .entry)) (now (out .entry)) r (now (found .exit)) (now (out .exit)) ⌝ }
 {
     let mut n = at;
     let mut v = u + 1;
     while v < vertices {
         if pairs[511 * (u as usize) + v as usize] {
-            n = clause_out(d, vertices, u, v, found, out, n);
+            n = clause_out(
+                toward,
+                by,
+                rank,
+                inb,
+                places,
+                parents,
+                count,
+                vertices,
+                u,
+                v,
+                found,
+                out,
+                n,
+            );
         }
         v += 1;
     }
@@ -80,8 +118,14 @@ fn clauses_row(
 }
 
 // The clauses of all marked pairs, ascending. Rows without a mark are passed over.
-pub fn clauses_out(
-    d: Drawing,
+pub fn clauses_out<'a>(
+    toward: &'a [u16; 511],
+    by: &'a [u16; 511],
+    rank: &'a [u16; 511],
+    inb: &'a [bool; 510],
+    places: &'a [u8; 510],
+    parents: &'a [u16; 4080],
+    count: usize,
     vertices: u16,
     pairs: &[bool],
     rows: &[bool; 511],
@@ -89,16 +133,30 @@ pub fn clauses_out(
     out: &mut [u8],
     at: usize,
 ) -> usize
-    requires { ⌜ ReadableSome d vertices (PairMarked (now pairs)) ⌝ }
+    requires { ⌜ ReadableSome (drawing (now toward) (now by) (now rank) (now inb) (now places) (now parents) count) vertices (PairMarked (now pairs)) ⌝ }
     requires { ⌜ (vertices ≤ 511) × (511 * vertices ≤ length (now pairs)) × (at + 261122 * 262144 < 2 ^ 60) × Covered (now pairs) (now rows) ⌝ }
     requires { ⌜ Blank vertices (now found) ⌝ }
-    ensures { λ r. ⌜ ClausesPut d vertices (PairMarked (now (pairs .entry))) (keep (marked (now (pairs .entry))) (pairsBelow vertices)) 261121 at (now (found .entry)) (now (out .entry)) r (now (found .exit)) (now (out .exit)) ⌝ }
+    ensures { λ r. ⌜ ClausesPut (drawing (now (toward .entry)) (now (by .entry)) (now (rank .entry)) (now (inb .entry)) (now (places .entry)) (now (parents .entry)) count) vertices (PairMarked (now (pairs .entry))) (keep (marked (now (pairs .entry))) (pairsBelow vertices)) 261121 at (now (found .entry)) (now (out .entry)) r (now (found .exit)) (now (out .exit)) ⌝ }
 {
     let mut n = at;
     let mut u = 0u16;
     while u < vertices {
         if rows[u as usize] {
-            n = clauses_row(d, vertices, u, pairs, found, out, n);
+            n = clauses_row(
+                toward,
+                by,
+                rank,
+                inb,
+                places,
+                parents,
+                count,
+                vertices,
+                u,
+                pairs,
+                found,
+                out,
+                n,
+            );
         }
         u += 1;
     }

@@ -1,15 +1,14 @@
 // The last clause of a disequality in A: the outer premises imply not [middle].
 use super::writing;
 use graphs::paths::Trail;
-use marking::drawing::Drawing;
-use marking::marks;
-use marking::settling;
+use marking::marks::want_outer;
+use marking::settling::settle;
 ghost use mathlib.Core.Path.{_≡_};
 ghost use Prim.Native.Nat.{_+_, _^_, _≤_, _<_};
 ghost use lib.ListN.{length};
 ghost use Rattle.clauses.specs.Records.{conclusionRecord};
 ghost use Rattle.marking.specs.Marks.{Within, RowsOf};
-ghost use Rattle.marking.specs.Drawn.{DrawnSome};
+ghost use Rattle.marking.specs.Drawn.{drawing, DrawnSome};
 ghost use Rattle.summing.specs.Writing.{putRecord};
 ghost use Rattle.summing.specs.Written.{Blank, notAt, LastPut};
 
@@ -32,8 +31,14 @@ fn put_last(stops: &[u16; 511], lo: usize, hi: usize, out: &mut [u8], at: usize)
 }
 
 // The last clause of a disequality in A: the premises of the outer stretches imply that the middle one's ends differ.
-pub fn last_out(
-    d: Drawing,
+pub fn last_out<'a>(
+    toward: &'a [u16; 511],
+    by: &'a [u16; 511],
+    rank: &'a [u16; 511],
+    inb: &'a [bool; 510],
+    places: &'a [u8; 510],
+    parents: &'a [u16; 4080],
+    count: usize,
     vertices: u16,
     t: Trail,
     lo: usize,
@@ -42,29 +47,30 @@ pub fn last_out(
     out: &mut [u8],
     at: usize,
 ) -> usize
-    requires { ⌜ DrawnSome d (length (now found)) ⌝ }
+    requires { ⌜ DrawnSome (drawing (now toward) (now by) (now rank) (now inb) (now places) (now parents) count) (length (now found)) ⌝ }
     requires { ⌜ Within (t .stops) (t .edges) 0 (t .hops) × (lo ≤ hi) × (hi ≤ t .hops) × (vertices ≤ 511) × (at + 261122 < 2 ^ 60) ⌝ }
     requires { ⌜ RowsOf (length (now found)) (t .stops) (t .hops) × Blank vertices (now found) ⌝ }
-    ensures { λ r. ⌜ LastPut d vertices (t .stops) (t .edges) lo hi (t .hops) at (now (found .entry)) (now (out .entry)) r (now (found .exit)) (now (out .exit)) ⌝ }
+    ensures { λ r. ⌜ LastPut (drawing (now (toward .entry)) (now (by .entry)) (now (rank .entry)) (now (inb .entry)) (now (places .entry)) (now (parents .entry)) count) vertices (t .stops) (t .edges) lo hi (t .hops) at (now (found .entry)) (now (out .entry)) r (now (found .exit)) (now (out .exit)) ⌝ }
 {
-    let inb = d.inb;
-    let stops = t.stops;
-    let mut rows = [false; 511];
-    let mut wanted = [false; 510];
-    let mut unused = [false; 510];
-    marks::want_outer(
-        &inb,
-        t,
-        lo,
-        hi,
+    let rows = &mut [false; 511];
+    let inside = &mut [false; 510];
+    let under = &mut [false; 510];
+    want_outer(inb, t, lo, hi, true, found, rows, inside, under);
+    settle(
+        toward,
+        by,
+        rank,
+        inb,
+        places,
+        parents,
+        count,
         true,
         found,
-        &mut rows,
-        &mut wanted,
-        &mut unused,
+        rows,
+        inside,
+        under,
     );
-    settling::settle(d, true, found, &mut rows, &mut wanted, &mut unused);
-    let n = writing::premises_out(found, &rows, vertices, out, at);
-    put_last(&stops, lo, hi, out, n);
+    let n = writing::premises_out(found, rows, vertices, out, at);
+    put_last(&t.stops, lo, hi, out, n);
     n + 1
 }

@@ -1,33 +1,41 @@
-// The two readings of a disequality: which equalities its clauses conclude, and their records. The marks are made once: a run over one byte counts the
-// records, and the next one writes them.
-use super::clause;
-use super::last;
-use super::stretches;
-use graphs::paths;
+// The two readings of a disequality: which equalities its clauses conclude, and their records.
+use super::clause::clauses_out;
+use super::last::last_out;
 use graphs::paths::Trail;
-use marking::drawing::Drawing;
-use marking::marks;
-use marking::settling;
-ghost use mathlib.Core.Bool.{true, false};
+use marking::marks::want_along;
+use marking::marks::want_outer;
+use marking::settling::settle;
 ghost use mathlib.Core.Path.{_≡_};
-ghost use Prim.Native.Nat.{_≤_};
+ghost use Prim.Native.Nat.{_*_, _≤_};
 ghost use lib.ListN.{length};
-ghost use Rattle.marking.specs.Marks.{Within, RowsOf};
-ghost use Rattle.marking.specs.Drawn.{DrawnSome};
-ghost use Rattle.summing.specs.Written.{Clear, Blank, Concluding, AskingSome, sideOf, Summarised};
+ghost use Rattle.marking.specs.Marks.{PairMarked, Covered, Within, RowsOf};
+ghost use Rattle.marking.specs.Drawn.{drawing, DrawnSome};
+ghost use Rattle.summing.specs.Written.{Clear, Blank, ReadableSome, Concluding, ReadingPut};
 
 // Marks the pairs that the clauses of a disequality conclude: what its middle stretch reaches, and what its outer ones reach without their own factors.
-fn conclude(d: Drawing, t: Trail, lo: usize, hi: usize, pairs: &mut [bool], rows: &mut [bool; 511])
-    requires { ⌜ DrawnSome d (length (now pairs)) ⌝ }
+pub fn conclude<'a>(
+    toward: &'a [u16; 511],
+    by: &'a [u16; 511],
+    rank: &'a [u16; 511],
+    inb: &'a [bool; 510],
+    places: &'a [u8; 510],
+    parents: &'a [u16; 4080],
+    count: usize,
+    t: Trail,
+    lo: usize,
+    hi: usize,
+    pairs: &mut [bool],
+    rows: &mut [bool; 511],
+)
+    requires { ⌜ DrawnSome (drawing (now toward) (now by) (now rank) (now inb) (now places) (now parents) count) (length (now pairs)) ⌝ }
     requires { ⌜ Within (t .stops) (t .edges) 0 (t .hops) × (lo ≤ hi) × (hi ≤ t .hops) ⌝ }
     requires { ⌜ RowsOf (length (now pairs)) (t .stops) (t .hops) × Clear (now pairs) × (length (now rows) ≡ 511) ⌝ }
-    ensures { λ _. ⌜ (length (now (pairs .exit)) ≡ length (now (pairs .entry))) × Concluding d (t .stops) (t .edges) lo hi (t .hops) (now (pairs .exit)) (now (rows .exit)) ⌝ }
+    ensures { λ _. ⌜ (length (now (pairs .exit)) ≡ length (now (pairs .entry))) × Concluding (drawing (now (toward .entry)) (now (by .entry)) (now (rank .entry)) (now (inb .entry)) (now (places .entry)) (now (parents .entry)) count) (t .stops) (t .edges) lo hi (t .hops) (now (pairs .exit)) (now (rows .exit)) ⌝ }
 {
-    let inb = d.inb;
-    let mut inside = [false; 510];
-    let mut under = [false; 510];
-    marks::want_along(
-        &inb,
+    let inside = &mut [false; 510];
+    let under = &mut [false; 510];
+    want_along(
+        inb,
         &t.stops,
         &t.edges,
         lo,
@@ -36,69 +44,84 @@ fn conclude(d: Drawing, t: Trail, lo: usize, hi: usize, pairs: &mut [bool], rows
         true,
         pairs,
         rows,
-        &mut inside,
-        &mut under,
+        inside,
+        under,
     );
-    marks::want_outer(&inb, t, lo, hi, false, pairs, rows, &mut inside, &mut under);
-    settling::settle(d, false, pairs, rows, &mut inside, &mut under);
+    want_outer(inb, t, lo, hi, false, pairs, rows, inside, under);
+    settle(
+        toward,
+        by,
+        rank,
+        inb,
+        places,
+        parents,
+        count,
+        false,
+        pairs,
+        rows,
+        inside,
+        under,
+    );
 }
 
-// "Disequality in B: the path clauses of the path between its sides."
-pub fn write_b(
-    d: Drawing,
+// The records of a disequality: "Disequality in B: the path clauses of the path between its sides." In A: those of the middle stretch and of the outer
+// premises, and a last clause.
+pub fn records_out<'a>(
+    toward: &'a [u16; 511],
+    by: &'a [u16; 511],
+    rank: &'a [u16; 511],
+    inb: &'a [bool; 510],
+    places: &'a [u8; 510],
+    parents: &'a [u16; 4080],
+    count: usize,
     vertices: u16,
-    colours: &[u8; 511],
-    s: u16,
-    t: u16,
-    pairs: &mut [bool],
+    ina: bool,
+    t: Trail,
+    lo: usize,
+    hi: usize,
+    pairs: &[bool],
+    rows: &[bool; 511],
     found: &mut [bool],
     out: &mut [u8],
 ) -> usize
-    requires { ⌜ AskingSome d vertices (now colours) s t × (vertices ≤ 511) ⌝ }
-    requires { ⌜ Blank vertices (now pairs) × Blank vertices (now found) ⌝ }
-    ensures { λ r. ⌜ Summarised d vertices (now (colours .entry)) s t (sideOf false) (now (out .entry)) r (now (out .exit)) ⌝ }
+    requires { ⌜ ReadableSome (drawing (now toward) (now by) (now rank) (now inb) (now places) (now parents) count) vertices (PairMarked (now pairs)) ⌝ }
+    requires { ⌜ (vertices ≤ 511) × (511 * vertices ≤ length (now pairs)) × Covered (now pairs) (now rows) ⌝ }
+    requires { ⌜ Within (t .stops) (t .edges) 0 (t .hops) × (lo ≤ hi) × (hi ≤ t .hops) ⌝ }
+    requires { ⌜ RowsOf (length (now found)) (t .stops) (t .hops) × Blank vertices (now found) ⌝ }
+    ensures { λ r. ⌜ ReadingPut (drawing (now (toward .entry)) (now (by .entry)) (now (rank .entry)) (now (inb .entry)) (now (places .entry)) (now (parents .entry)) count) vertices (now (pairs .entry)) (t .stops) (t .edges) lo hi (t .hops) (now (found .entry)) (now (out .entry)) r (now (found .exit)) (now (out .exit)) ina ⌝ }
 {
-    let p = paths::path(&d.toward, &d.by, &d.rank, s, t);
-    let hops = p.hops;
-    let mut rows = [false; 511];
-    conclude(d, p, 0, hops, pairs, &mut rows);
-    let mut none = [0u8; 1];
-    let n = clause::clauses_out(d, vertices, pairs, &rows, found, &mut none, 0);
-    if out.len() / 8 < n {
-        return n;
+    let n = clauses_out(
+        toward,
+        by,
+        rank,
+        inb,
+        places,
+        parents,
+        count,
+        vertices,
+        pairs,
+        rows,
+        found,
+        out,
+        0,
+    );
+    if ina {
+        return last_out(
+            toward,
+            by,
+            rank,
+            inb,
+            places,
+            parents,
+            count,
+            vertices,
+            t,
+            lo,
+            hi,
+            found,
+            out,
+            n,
+        );
     }
-    clause::clauses_out(d, vertices, pairs, &rows, found, out, 0)
-}
-
-// "Disequality in A": the path clauses of the middle stretch and of the outer premises, and a last clause.
-pub fn write_a(
-    d: Drawing,
-    vertices: u16,
-    colours: &[u8; 511],
-    s: u16,
-    t: u16,
-    pairs: &mut [bool],
-    found: &mut [bool],
-    out: &mut [u8],
-) -> usize
-    requires { ⌜ AskingSome d vertices (now colours) s t × (vertices ≤ 511) ⌝ }
-    requires { ⌜ Blank vertices (now pairs) × Blank vertices (now found) ⌝ }
-    ensures { λ r. ⌜ Summarised d vertices (now (colours .entry)) s t (sideOf true) (now (out .entry)) r (now (out .exit)) ⌝ }
-{
-    let p = paths::path(&d.toward, &d.by, &d.rank, s, t);
-    let stops = p.stops;
-    let edges = p.edges;
-    let hops = p.hops;
-    let lo = stretches::first_b(colours, &stops, &edges, hops);
-    let hi = stretches::last_b(colours, &stops, &edges, lo, hops);
-    let mut rows = [false; 511];
-    conclude(d, p, lo, hi, pairs, &mut rows);
-    let mut none = [0u8; 1];
-    let m = clause::clauses_out(d, vertices, pairs, &rows, found, &mut none, 0);
-    let n = last::last_out(d, vertices, p, lo, hi, found, &mut none, m);
-    if out.len() / 8 < n {
-        return n;
-    }
-    let m = clause::clauses_out(d, vertices, pairs, &rows, found, out, 0);
-    last::last_out(d, vertices, p, lo, hi, found, out, m)
+    n
 }

@@ -1,10 +1,15 @@
 // Where the middle stretch of a path begins and ends: at its first and its last B-colourable stop.
 ghost use Prim.Native.Nat.{_≤_};
 ghost use Rattle.marking.specs.Marks.{Within};
-ghost use Rattle.summing.specs.Written.{FirstB, LastB};
+ghost use Rattle.summing.specs.Written.{FirstB, LastB, MiddleFrom, MiddleTo};
 
 // The first stop of a trail that is B-colourable, or its end.
-pub fn first_b(colours: &[u8; 511], stops: &[u16; 511], edges: &[u16; 511], hops: usize) -> usize
+fn first_b<'a>(
+    colours: &[u8; 511],
+    stops: &'a [u16; 511],
+    edges: &'a [u16; 511],
+    hops: usize,
+) -> usize
     requires { ⌜ Within (now stops) (now edges) 0 hops ⌝ }
     ensures { λ r. ⌜ FirstB (now (colours .entry)) (now (stops .entry)) hops r ⌝ }
 {
@@ -20,10 +25,10 @@ pub fn first_b(colours: &[u8; 511], stops: &[u16; 511], edges: &[u16; 511], hops
 }
 
 // The last stop from place lo on that is B-colourable, or lo itself.
-pub fn last_b(
+fn last_b<'a>(
     colours: &[u8; 511],
-    stops: &[u16; 511],
-    edges: &[u16; 511],
+    stops: &'a [u16; 511],
+    edges: &'a [u16; 511],
     lo: usize,
     hops: usize,
 ) -> usize
@@ -40,4 +45,40 @@ pub fn last_b(
         i -= 1;
     }
     i
+}
+
+// Where the middle stretch begins: in A at the first stop that is B-colourable, in B at the first of all.
+pub fn middle_from<'a>(
+    ina: bool,
+    colours: &[u8; 511],
+    stops: &'a [u16; 511],
+    edges: &'a [u16; 511],
+    hops: usize,
+) -> usize
+    requires { ⌜ Within (now stops) (now edges) 0 hops ⌝ }
+    ensures { λ r. ⌜ MiddleFrom (now (colours .entry)) (now (stops .entry)) hops r ina ⌝ }
+{
+    if ina {
+        return first_b(colours, stops, edges, hops);
+    }
+    0
+}
+
+// Where it ends: in A at the last such stop, in B at the last of all.
+pub fn middle_to<'a>(
+    ina: bool,
+    colours: &[u8; 511],
+    stops: &'a [u16; 511],
+    edges: &'a [u16; 511],
+    lo: usize,
+    hops: usize,
+) -> usize
+    requires { ⌜ Within (now stops) (now edges) 0 hops ⌝ }
+    requires { ⌜ lo ≤ hops ⌝ }
+    ensures { λ r. ⌜ MiddleTo (now (colours .entry)) (now (stops .entry)) lo hops r ina ⌝ }
+{
+    if ina {
+        return last_b(colours, stops, edges, lo, hops);
+    }
+    hops
 }

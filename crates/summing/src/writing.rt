@@ -1,7 +1,8 @@
 // Clause records: written where they fit, counted in any case.
+ghost use mathlib.Core.List.{_++_};
 ghost use mathlib.Core.Path.{_≡_};
 ghost use Prim.Native.Nat.{_+_, _*_, _^_, _≤_, _<_};
-ghost use lib.ListN.{length};
+ghost use lib.ListN.{length, take, drop};
 ghost use Rattle.tables.specs.Words.{pair};
 ghost use Rattle.clauses.specs.Records.{clauseRecord};
 ghost use Rattle.marking.specs.Marks.{Covered};
@@ -22,6 +23,18 @@ pub fn put(out: &mut [u8], at: usize, kind: u8, left: u16, right: u16)
         out[i + 5] = (right / 256) as u8;
         out[i + 6] = 0;
         out[i + 7] = 0;
+    }
+}
+
+// The first bytes of a small buffer, copied; what stands behind them in the other stays.
+pub fn copy(from: &[u8], bytes: usize, out: &mut [u8])
+    requires { ⌜ (bytes ≤ length (now from)) × (bytes ≤ length (now out)) ⌝ }
+    ensures { λ _. ⌜ now (out .exit) ≡ take bytes (now (from .entry)) ++ drop bytes (now (out .entry)) ⌝ }
+{
+    let mut i = 0;
+    while i < bytes {
+        out[i] = from[i];
+        i += 1;
     }
 }
 

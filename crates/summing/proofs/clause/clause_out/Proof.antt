@@ -10,6 +10,7 @@ use Rattle.tables.specs.LiteralTable.{Literal}
 use Rattle.closure.specs.Graph.{Graph}
 use Rattle.graphs.specs.declared.paths.Trail.{Trail}
 use Rattle.graphs.specs.Trails.{Joining, TrailOf}
+use Rattle.marking.specs.Drawn.{drawing}
 use Rattle.marking.proofs.Owing.{PathRead, joins, path-read, path-rows}
 use Rattle.summing.specs.Written.{Readable}
 use Rattle.summing.proofs.ClausesOut.{none-covered, clause-put}
@@ -19,13 +20,13 @@ use Rattle.summing.proofs.clause.clause_out.Tie as tie
 
 path-requires : tie.Need-path-requires
 path-requires c κs =
-    let s = c .before .before .before .before .before .before .before .pre .0 in
+    let s = c .before .before .pre .0 in
     let x = s .4 in
-    let p = c .before .before .before .before .before .before .before .pre .1 .0 in
+    let p = c .before .before .pre .1 .0 in
     (omega (arith, p .0, p .1, p .2), omega (arith, p .1, p .2), (s .3, joins _ _ _ _ _ (x .drawn) (x .connected _ (p .0, p .1) refl)))
 
 -- the path between u and v, in each graph that the arrays hold
-path-here : (c : tie.Start) (r : Trail) → ((G : Graph) → Joining (c .args .t1 .toward) (c .args .t1 .by) (c .args .t1 .rank) (c .args .u) (c .args .v) G → TrailOf G (c .args .u) (c .args .v) r) → (ts : List Term) (ls : List Literal) (table : List Term) (G : Graph) (x : Readable (c .args .t1) (c .args .vertices) (λ p. p ≡ pair (c .args .u) (c .args .v)) ts ls table G) → PathRead (c .args .t1) ts ls table G (x .drawn) (c .args .u) (c .args .v) (r .hops) (r .stops) (r .edges)
+path-here : (c : tie.Start) (r : Trail) → ((G : Graph) → Joining (c .args .toward .now) (c .args .by .now) (c .args .rank .now) (c .args .u) (c .args .v) G → TrailOf G (c .args .u) (c .args .v) r) → (ts : List Term) (ls : List Literal) (table : List Term) (G : Graph) (x : Readable (drawing (c .args .toward .now) (c .args .by .now) (c .args .rank .now) (c .args .inb .now) (c .args .places .now) (c .args .parents .now) (c .args .count)) (c .args .vertices) (λ p. p ≡ pair (c .args .u) (c .args .v)) ts ls table G) → PathRead (drawing (c .args .toward .now) (c .args .by .now) (c .args .rank .now) (c .args .inb .now) (c .args .places .now) (c .args .parents .now) (c .args .count)) ts ls table G (x .drawn) (c .args .u) (c .args .v) (r .hops) (r .stops) (r .edges)
 path-here c r given ts ls table G x =
     let p = c .pre .1 .0 in
     let j = x .connected _ (p .0, p .1) refl in
@@ -33,28 +34,28 @@ path-here c r given ts ls table G x =
 
 want-along-requires : tie.Need-want-along-requires
 want-along-requires c κs =
-    let s = c .before .before .before .before .before .before .before .before .before .before .before .before .before .before .before .before .pre .0 in
-    let g = path-here (c .before .before .before .before .before .before .before .before .before .before .before .before .before .before .before .before) (c .before .before .before .before .before .before .before .before .path .result) (c .before .before .before .before .before .before .before .before .path .ensures) (s .0) (s .1) (s .2) (s .3) (s .4) in
-    (g .within, (path-rows _ _ _ _ _ (s .4 .drawn) _ (omega (arith, s .4 .terms, c .before .before .before .before .before .before .before .before .before .before .before .before .before .before .before .before .pre .1 .1 .rows)) g, record { rows-sized = length-replicate 511 false; inside-sized = length-replicate 510 false; under-sized = length-replicate 510 false }))
+    let s = c .before .before .before .before .before .before .before .before .before .before .before .before .before .pre .0 in
+    let g = path-here (c .before .before .before .before .before .before .before .before .before .before .before .before .before) (c .before .before .before .before .before .before .before .before .before .before .path .result) (c .before .before .before .before .before .before .before .before .before .before .path .ensures) (s .0) (s .1) (s .2) (s .3) (s .4) in
+    (g .within, (path-rows _ _ _ _ _ (s .4 .drawn) _ (omega (arith, s .4 .terms, c .before .before .before .before .before .before .before .before .before .before .before .before .before .pre .1 .1 .rows)) g, record { rows-sized = length-replicate 511 false; inside-sized = length-replicate 510 false; under-sized = length-replicate 510 false }))
 
 settle-requires : tie.Need-settle-requires
 settle-requires c κs =
-    let s = c .before .before .before .before .before .before .before .before .before .before .before .before .before .before .before .before .before .before .before .before .before .before .before .pre .0 in
-    let w = c .before .before .before .before .before .before .want-along .ensures in
-    ((s .0, s .1, s .2, s .3, s .4 .drawn, omega (arith, s .4 .terms, c .before .before .before .before .before .before .before .before .before .before .before .before .before .before .before .before .before .before .before .before .before .before .before .pre .1 .1 .rows, w .same)), w .in-order)
+    let s = c .before .before .before .before .before .before .before .before .before .before .before .before .before .before .before .before .before .before .pre .0 in
+    let w = c .before .before .before .before .want-along .ensures in
+    ((s .0, s .1, s .2, s .3, s .4 .drawn, omega (arith, s .4 .terms, c .before .before .before .before .before .before .before .before .before .before .before .before .before .before .before .before .before .before .pre .1 .1 .rows, w .same)), w .in-order)
 
 premises-out-requires : tie.Need-premises-out-requires
 premises-out-requires c κs =
-    let p = c .before .before .before .before .before .before .before .before .before .before .before .before .before .before .before .before .before .before .before .before .before .before .before .before .before .before .before .before .before .pre .1 in
-    let w = c .before .before .before .before .before .before .before .before .before .before .before .before .want-along .ensures in
+    let p = c .before .before .before .before .before .before .before .before .before .before .before .before .before .before .before .before .before .before .before .before .before .before .before .before .pre .1 in
+    let w = c .before .before .before .before .before .before .before .before .before .before .want-along .ensures in
     let q = c .before .before .before .before .before .settle .ensures in
-    ((p .0 .2, omega (arith, p .0 .3)), (omega (arith, p .1 .rows, w .same, q .same), q .cover (w .cover (none-covered (c .before .before .before .before .before .before .before .before .before .before .before .before .before .before .before .before .before .before .before .before .before .before .before .before .before .before .before .before .before .args .found .now) (p .1 .clear) (replicate 511 false)))))
+    ((p .0 .2, omega (arith, p .0 .3)), (omega (arith, p .1 .rows, w .same, q .same), q .cover (w .cover (none-covered (c .before .before .before .before .before .before .before .before .before .before .before .before .before .before .before .before .before .before .before .before .before .before .before .before .args .found .now) (p .1 .clear) (replicate 511 false)))))
 
 put-requires : tie.Need-put-requires
-put-requires c κs = omega (arith, c .before .before .before .before .before .premises-out .ensures .few, c .before .before .before .before .before .before .before .before .before .before .before .before .before .before .before .before .before .before .before .before .before .before .before .before .before .before .before .before .before .before .before .before .before .before .before .pre .1 .0 .3)
+put-requires c κs = omega (arith, c .before .before .before .before .before .premises-out .ensures .few, c .before .before .before .before .before .before .before .before .before .before .before .before .before .before .before .before .before .before .before .before .before .before .before .before .before .before .before .before .before .before .pre .1 .0 .3)
 
 add-result : tie.Need-add-result
-add-result c = omega (arith, c .before .before .before .before .before .before .before .before .premises-out .ensures .few, c .before .before .before .before .before .before .before .before .before .before .before .before .before .before .before .before .before .before .before .before .before .before .before .before .before .before .before .before .before .before .before .before .before .before .before .before .before .before .pre .1 .0 .3)
+add-result c = omega (arith, c .before .before .before .before .before .before .before .before .premises-out .ensures .few, c .before .before .before .before .before .before .before .before .before .before .before .before .before .before .before .before .before .before .before .before .before .before .before .before .before .before .before .before .before .before .before .before .before .pre .1 .0 .3)
 
 same-length : tie.Need-same-length
 same-length c = search needs
@@ -64,9 +65,9 @@ same-length-2 c = search needs
 
 returns : tie.Need-returns
 returns c =
-    let p = c .before .before .before .before .before .before .before .before .before .before .before .before .before .before .before .before .before .before .before .before .before .before .before .before .before .before .before .before .before .before .before .before .before .before .before .before .before .before .pre in
+    let p = c .before .before .before .before .before .before .before .before .before .before .before .before .before .before .before .before .before .before .before .before .before .before .before .before .before .before .before .before .before .before .before .before .before .pre in
     let t = c .before .before .before .before .before .before .before .before .before .before .before .before .before .before .before .before .before .before .before .before .before .before .before .before .before .before .before .before .before .before .path in
-    clause-put _ _ _ _ (p .1 .0 .0) (p .1 .0 .1) (p .1 .0 .2) (p .0) (t .result .stops) (t .result .edges) (t .result .hops) (λ ts ls table G x. path-here (c .before .before .before .before .before .before .before .before .before .before .before .before .before .before .before .before .before .before .before .before .before .before .before .before .before .before .before .before .before .before .before .before .before .before .before .before .before .before) (t .result) (t .ensures) ts ls table G x .trailed) _ _ _ _ _ _ _ _ _ _ _ _ _ _ _ (p .1 .1 .clear) (c .before .before .before .before .before .before .before .before .before .before .before .before .before .before .before .before .before .before .before .before .before .want-along .ensures) (c .before .before .before .before .before .before .before .before .before .before .before .before .before .before .settle .ensures) (c .before .before .before .before .before .before .before .before .premises-out .ensures) _ (c .before .before .put .ensures)
+    clause-put _ _ _ _ (p .1 .0 .0) (p .1 .0 .1) (p .1 .0 .2) (p .0) (t .result .stops) (t .result .edges) (t .result .hops) (λ ts ls table G x. path-here (c .before .before .before .before .before .before .before .before .before .before .before .before .before .before .before .before .before .before .before .before .before .before .before .before .before .before .before .before .before .before .before .before .before) (t .result) (t .ensures) ts ls table G x .trailed) _ _ _ _ _ _ _ _ _ _ _ _ _ _ _ (p .1 .1 .clear) (c .before .before .before .before .before .before .before .before .before .before .before .before .before .before .before .before .before .before .before .want-along .ensures) (c .before .before .before .before .before .before .before .before .before .before .before .before .before .before .settle .ensures) (c .before .before .before .before .before .before .before .before .premises-out .ensures) _ (c .before .before .put .ensures)
 
 pub clause-out-spec : {M : Type 1} → statement M
 clause-out-spec =

@@ -2,16 +2,17 @@
 use mathlib.Core.Logic.{⊎-elim}
 use Prim.Native.Nat.{_-_}
 use native.Mathlib.Omega.{arith}
+use Rattle.marking.specs.Drawn.{drawing}
 use Rattle.summing.proofs.ClausesOut.{put-blank, RowsClauses, rows-clauses-none, rows-clauses-skip, rows-clauses-take, rows-clauses-all, rows-clauses-named}
 use Rattle.summing.proofs.clause.clauses_out.Statement.{statement}
 use Rattle.summing.proofs.clause.clauses_out.Tie as tie
 
 abbrev Inv-loop : tie.InvT-loop
-Inv-loop arrays vertices pairs rows found₀ out₀ at n₀ u₀ found out n u =
-    RowsClauses arrays vertices pairs at found₀ out₀ u n found out
+Inv-loop toward by rank inb places parents count vertices pairs rows found₀ out₀ at n₀ u₀ found out n u =
+    RowsClauses (drawing toward by rank inb places parents count) vertices pairs at found₀ out₀ u n found out
 
 abbrev μ-loop : tie.MeasureT-loop
-μ-loop arrays vertices pairs rows found₀ out₀ at n₀ u₀ found out n u = vertices - u
+μ-loop toward by rank inb places parents count vertices pairs rows found₀ out₀ at n₀ u₀ found out n u = vertices - u
 
 loop-holds : tie.Need-loop-holds Inv-loop μ-loop
 loop-holds c = rows-clauses-none _ _ _ _ _ _ (c .before .before .before .pre .1 .1 .clear)

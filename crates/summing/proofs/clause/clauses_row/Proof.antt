@@ -4,16 +4,17 @@ use Prim.Native.Nat.{_-_}
 use native.Mathlib.Omega.{arith}
 use Rattle.tables.specs.Words.{pair}
 use Rattle.tables.proofs.Words.{passes}
+use Rattle.marking.specs.Drawn.{drawing}
 use Rattle.summing.proofs.ClausesOut.{put-blank, RowClauses, row-clauses-none, row-clauses-skip, row-clauses-take, row-clauses-all, row-clauses-named, readable-one}
 use Rattle.summing.proofs.clause.clauses_row.Statement.{statement}
 use Rattle.summing.proofs.clause.clauses_row.Tie as tie
 
 abbrev Inv-loop : tie.InvT-loop
-Inv-loop arrays vertices u pairs found₀ out₀ at n₀ v₀ found out n v =
-    RowClauses arrays vertices pairs u at found₀ out₀ v n found out
+Inv-loop toward by rank inb places parents count vertices u pairs found₀ out₀ at n₀ v₀ found out n v =
+    RowClauses (drawing toward by rank inb places parents count) vertices pairs u at found₀ out₀ v n found out
 
 abbrev μ-loop : tie.MeasureT-loop
-μ-loop arrays vertices u pairs found₀ out₀ at n₀ v₀ found out n v = vertices - v
+μ-loop toward by rank inb places parents count vertices u pairs found₀ out₀ at n₀ v₀ found out n v = vertices - v
 
 add-v : tie.Need-add-v Inv-loop μ-loop
 add-v c = omega (arith, c .before .before .before .pre .1 .0)

@@ -16,23 +16,23 @@ want-outer-requires c κs =
 
 settle-requires : tie.Need-settle-requires
 settle-requires c κs =
-    let o = c .before .before .before .before .before .before .want-outer .ensures in
-    (drawn-kept _ _ _ (o .after .same ∙ o .before .same) (c .before .before .before .before .before .before .before .before .before .before .before .before .before .before .before .before .pre .0), o .after .in-order)
+    let o = c .before .before .before .before .want-outer .ensures in
+    (drawn-kept _ _ _ (o .after .same ∙ o .before .same) (c .before .before .before .before .before .before .before .before .before .before .before .before .before .before .pre .0), o .after .in-order)
 
 premises-out-requires : tie.Need-premises-out-requires
 premises-out-requires c κs =
-    let p = c .before .before .before .before .before .before .before .before .before .before .before .before .before .before .before .before .before .before .before .before .before .before .pre .1 in
+    let p = c .before .before .before .before .before .before .before .before .before .before .before .before .before .before .before .before .before .before .before .before .pre .1 in
     let q = c .before .before .before .before .before .settle .ensures in
-    let o = c .before .before .before .before .before .before .before .before .before .before .before .before .want-outer .ensures in
-    ((p .0 .3, omega (arith, p .0 .4)), (omega (arith, p .1 .1 .rows, o .before .same, o .after .same, q .same), q .cover (o .after .cover (o .before .cover (none-covered (c .before .before .before .before .before .before .before .before .before .before .before .before .before .before .before .before .before .before .before .before .before .before .args .found .now) (p .1 .1 .clear) (replicate 511 false))))))
+    let o = c .before .before .before .before .before .before .before .before .before .before .want-outer .ensures in
+    ((p .0 .3, omega (arith, p .0 .4)), (omega (arith, p .1 .1 .rows, o .before .same, o .after .same, q .same), q .cover (o .after .cover (o .before .cover (none-covered (c .before .before .before .before .before .before .before .before .before .before .before .before .before .before .before .before .before .before .before .before .args .found .now) (p .1 .1 .clear) (replicate 511 false))))))
 
 put-last-requires : tie.Need-put-last-requires
 put-last-requires c κs =
-    let p = c .before .before .before .before .before .before .before .before .before .before .before .before .before .before .before .before .before .before .before .before .before .before .before .before .before .before .before .before .before .pre .1 .0 in
-    (p .1, omega (arith, p .2, p .0 .short), omega (arith, c .before .before .before .before .before .before .premises-out .ensures .few, p .4))
+    let p = c .before .before .before .before .before .before .before .before .before .before .before .before .before .before .before .before .before .before .before .before .before .before .before .before .before .before .before .before .pre .1 .0 in
+    (p .1, omega (arith, p .2, p .0 .short), omega (arith, c .before .before .before .before .before .before .before .premises-out .ensures .few, p .4))
 
 add-result : tie.Need-add-result
-add-result c = omega (arith, c .before .before .before .before .before .before .before .before .before .premises-out .ensures .few, c .before .before .before .before .before .before .before .before .before .before .before .before .before .before .before .before .before .before .before .before .before .before .before .before .before .before .before .before .before .before .before .before .pre .1 .0 .4)
+add-result c = omega (arith, c .before .before .before .before .before .before .before .before .before .before .premises-out .ensures .few, c .before .before .before .before .before .before .before .before .before .before .before .before .before .before .before .before .before .before .before .before .before .before .before .before .before .before .before .before .before .before .before .pre .1 .0 .4)
 
 same-length : tie.Need-same-length
 same-length c = search needs
@@ -41,7 +41,7 @@ same-length-2 : tie.Need-same-length-2
 same-length-2 c = search needs
 
 returns : tie.Need-returns
-returns c = last-put _ _ _ _ _ _ _ (c .before .before .before .before .before .before .before .before .before .before .before .before .before .before .before .before .before .before .before .before .before .before .before .before .before .before .before .before .before .before .before .before .pre .1 .0 .3) (c .before .before .before .before .before .before .before .before .before .before .before .before .before .before .before .before .before .before .before .before .before .before .before .before .before .before .before .before .before .before .before .before .args .found .now) _ _ _ _ _ _ _ _ _ (c .before .before .before .before .before .before .before .before .before .before .before .before .before .before .before .before .before .before .before .before .before .before .before .before .before .before .before .before .before .before .before .before .pre .1 .1 .1 .clear) (c .before .before .before .before .before .before .before .before .before .before .before .before .before .before .before .before .before .before .before .before .before .before .want-outer .ensures) (c .before .before .before .before .before .before .before .before .before .before .before .before .before .before .before .settle .ensures) _ _ _ _ _ _ (c .before .before .before .before .before .before .before .before .before .premises-out .ensures) (c .before .before .put-last .ensures)
+returns c = last-put _ _ _ _ _ _ _ (c .before .before .before .before .before .before .before .before .before .before .before .before .before .before .before .before .before .before .before .before .before .before .before .before .before .before .before .before .before .before .before .pre .1 .0 .3) (c .before .before .before .before .before .before .before .before .before .before .before .before .before .before .before .before .before .before .before .before .before .before .before .before .before .before .before .before .before .before .before .args .found .now) _ _ _ _ _ _ _ _ _ (c .before .before .before .before .before .before .before .before .before .before .before .before .before .before .before .before .before .before .before .before .before .before .before .before .before .before .before .before .before .before .before .pre .1 .1 .1 .clear) (c .before .before .before .before .before .before .before .before .before .before .before .before .before .before .before .before .before .before .before .before .before .want-outer .ensures) (c .before .before .before .before .before .before .before .before .before .before .before .before .before .before .before .before .settle .ensures) _ _ _ _ _ _ (c .before .before .before .before .before .before .before .before .before .before .premises-out .ensures) (c .before .before .put-last .ensures)
 
 pub last-out-spec : {M : Type 1} → statement M
 last-out-spec =

@@ -17,23 +17,23 @@ want-along-requires c κs =
 
 want-outer-requires : tie.Need-want-outer-requires
 want-outer-requires c κs =
-    let p = c .before .before .before .before .before .before .before .before .before .before .before .before .before .before .before .before .before .before .pre .1 in
-    let w = c .before .before .before .before .before .before .before .want-along .ensures in
+    let p = c .before .before .before .before .before .before .before .before .before .before .before .before .before .before .before .before .before .pre .1 in
+    let w = c .before .before .before .before .before .before .want-along .ensures in
     (p .0, (rows-part _ _ _ _ _ (le-refl _) (w .same) (p .1 .0), w .in-order))
 
 settle-requires : tie.Need-settle-requires
 settle-requires c κs =
-    let w = c .before .before .before .before .before .before .before .before .before .before .before .before .before .before .want-along .ensures in
-    let o = c .before .before .before .before .before .before .want-outer .ensures in
-    (drawn-kept _ _ _ (o .after .same ∙ o .before .same ∙ w .same) (c .before .before .before .before .before .before .before .before .before .before .before .before .before .before .before .before .before .before .before .before .before .before .before .before .before .pre .0), o .after .in-order)
+    let w = c .before .before .before .before .before .before .before .before .before .before .before .want-along .ensures in
+    let o = c .before .before .before .before .want-outer .ensures in
+    (drawn-kept _ _ _ (o .after .same ∙ o .before .same ∙ w .same) (c .before .before .before .before .before .before .before .before .before .before .before .before .before .before .before .before .before .before .before .before .before .before .pre .0), o .after .in-order)
 
 same-length : tie.Need-same-length
 same-length c = search needs
 
 returns : tie.Need-returns
 returns c =
-    let o = c .before .before .before .before .before .before .before .before .before .want-outer .ensures in
-    (c .before .before .settle .ensures .same ∙ o .after .same ∙ o .before .same ∙ c .before .before .before .before .before .before .before .before .before .before .before .before .before .before .before .before .before .want-along .ensures .same, concluded _ _ _ _ _ _ (c .before .before .before .before .before .before .before .before .before .before .before .before .before .before .before .before .before .before .before .before .before .before .before .before .before .before .before .before .args .pairs .now) (c .before .before .before .before .before .before .before .before .before .before .before .before .before .before .before .before .before .before .before .before .before .before .before .before .before .before .before .before .args .rows .now) _ _ _ _ _ _ _ _ _ _ _ _ (c .before .before .before .before .before .before .before .before .before .before .before .before .before .before .before .before .before .before .before .before .before .before .before .before .before .before .before .before .pre .1 .1 .1) (c .before .before .before .before .before .before .before .before .before .before .before .before .before .before .before .before .before .want-along .ensures) o (c .before .before .settle .ensures))
+    let o = c .before .before .before .before .before .before .before .want-outer .ensures in
+    (c .before .before .settle .ensures .same ∙ o .after .same ∙ o .before .same ∙ c .before .before .before .before .before .before .before .before .before .before .before .before .before .before .want-along .ensures .same, concluded _ _ _ _ _ _ (c .before .before .before .before .before .before .before .before .before .before .before .before .before .before .before .before .before .before .before .before .before .before .before .before .before .args .pairs .now) (c .before .before .before .before .before .before .before .before .before .before .before .before .before .before .before .before .before .before .before .before .before .before .before .before .before .args .rows .now) _ _ _ _ _ _ _ _ _ _ _ _ (c .before .before .before .before .before .before .before .before .before .before .before .before .before .before .before .before .before .before .before .before .before .before .before .before .before .pre .1 .1 .1) (c .before .before .before .before .before .before .before .before .before .before .before .before .before .before .want-along .ensures) o (c .before .before .settle .ensures))
 
 pub conclude-spec : {M : Type 1} → statement M
 conclude-spec = tie.close (tie.spec want-along-requires want-outer-requires settle-requires same-length returns)
