@@ -5,7 +5,7 @@ use mathlib.Core.Path.{_≡_, refl, sym, ap, subst, _∙_}
 use Prim.Native.Nat.{ℕ, _<_}
 use native.Mathlib.Omega.{arith}
 use lib.Dec.{T, eqb, leb}
-use lib.ListN.{drop}
+use lib.ListN.{length, getD, drop}
 use Rattle.tables.specs.Terms.{Term}
 use Rattle.tables.specs.LiteralTable.{Literal, literalCount, literalRecord}
 use Rattle.tables.specs.declared.Side.the-variants.{A, B}
@@ -24,11 +24,12 @@ use Rattle.running.proofs.Beginning.{terms-are}
 use Rattle.running.proofs.BasicSteps.{length-literals, left-is, right-is, side-is, sides-in}
 use Rattle.running.proofs.DerivedSteps.{two-test}
 use Rattle.running.proofs.OnRuns.{on-run-sound, arity-small, can-root}
+use Rattle.closure.proofs.Walking.Parents.{hop-sound}
 use Rattle.closure.proofs.Running.OwnRun.{own-run}
 use Rattle.running.proofs.OwnTurns.{checks}
-use Rattle.running.proofs.Showing.{shown-arity, shown-colour}
-use Rattle.marking.specs.declared.drawing.Drawing.{Drawing}
-use Rattle.marking.specs.Drawn.{EdgeAt, Drawn, drawing}
+use Rattle.running.proofs.Showing.{shown-colour}
+use Rattle.marking.specs.Drawn.{PartsAt, Drawing, Drawn, drawing}
+use Rattle.marking.proofs.Owing.{Numbered, numbered}
 use Rattle.clauses.specs.Clauses.{Clause}
 use Rattle.clauses.specs.Reading.{literalAt, summary, readBetween}
 use Rattle.clauses.specs.Records.{clauseRecords}
@@ -38,10 +39,10 @@ use Rattle.summing.proofs.Summing.{records-written}
 use Rattle.marking.specs.declared.edges.Columns.{Columns}
 use Rattle.demands.specs.Buffers.{writtenOver}
 use Rattle.demands.specs.Call.{recordsIn}
-use Rattle.engine.specs.Ending.{Ends, Decides, termsIn, literalsIn, recordsFor, Written, FlatRows}
+use Rattle.engine.specs.Ending.{Ends, Decides, termsIn, literalsIn, recordsFor, Written, EndsIn, PlacesOf, ParentsOf}
 use Rattle.demands.proofs.Critical.{critical-found, critical-first}
 use Rattle.engine.proofs.AddedRecords.{all-terms}
-use Rattle.engine.proofs.Layouts.{arguments-flat}
+use Rattle.engine.proofs.ParentEnds.{edges-drawn}
 
 -- the arrays show a state of a run
 abbrev pub on-run : {t : Tables} {s : Arrays} → Ends t s → OnRun s
@@ -56,22 +57,31 @@ on-run {t} w =
       run = own-run (termsIn (w .from)) (literalsIn (w .from)) (checks t (w .from) .lower) (checks t (w .from) .sides) (w .state) (w .last) .1;
     }
 
--- the arrays that are laid out of a state hold its graph and its terms
-pub drawn-of : {t : Tables} {s : Arrays} (w : Ends t s) (args toward by rank : List ℕ) (c : Columns) → FlatRows (s .terms) (s .rows) args → RootedBy (edgesOf (s .graph)) toward by rank → Each (EdgeAt (c .lefts) (c .rights) (c .inb) (c .derived)) (edgesOf (s .graph)) → Drawn (drawing args (s .arities) toward by rank (c .lefts) (c .rights) (c .inb) (c .derived) (s .graph .count)) (termsIn (w .from)) (literalsIn (w .from)) (tableOf (termsIn (w .from)) (w .state)) (w .state .graph)
-drawn-of {t} {s} w args toward by rank c flat rooted laid =
+-- the ends of its edges are terms
+pub ends-in : {t : Tables} {s : Arrays} (w : Ends t s) (c : Columns) → Each (PartsAt (c .lefts) (c .rights) (c .inb) (c .derived)) (edgesOf (s .graph)) → EndsIn (c .lefts) (s .graph .count) × EndsIn (c .rights) (s .graph .count)
+ends-in {s = s} w c laid =
     let ts = termsIn (w .from) in
     let ls = literalsIn (w .from) in
+    let edge : (i : ℕ) → i < s .graph .count → Numbered (PartsAt (c .lefts) (c .rights) (c .inb) (c .derived)) (w .state .graph) i = λ i l. numbered (PartsAt (c .lefts) (c .rights) (c .inb) (c .derived)) (w .state .graph) i (subst (Each (PartsAt (c .lefts) (c .rights) (c .inb) (c .derived))) (w .shows .edges) laid) (omega (arith, l, w .shows .count)) in (
+      λ i l. let n = edge i l in subst (λ (k : ℕ). getD (c .lefts) k 0 < 511) (n .count) (omega (arith, n .has .left-at, hop-sound ts ls (tableOf ts (w .state)) (n .walked) (on-run-sound (on-run w) .edges) .from-within, w .shows .within)),
+      λ i l. let n = edge i l in subst (λ (k : ℕ). getD (c .rights) k 0 < 511) (n .count) (omega (arith, n .has .right-at, hop-sound ts ls (tableOf ts (w .state)) (n .walked) (on-run-sound (on-run w) .edges) .to-within, w .shows .within)),
+    )
+
+-- the arrays that are laid out of a state hold its graph
+pub drawn-of : {t : Tables} {s : Arrays} (w : Ends t s) (toward by rank places parents : List ℕ) (c : Columns) → RootedBy (edgesOf (s .graph)) toward by rank → Each (PartsAt (c .lefts) (c .rights) (c .inb) (c .derived)) (edgesOf (s .graph)) → PlacesOf (c .lefts) (c .derived) (s .arities) (s .graph .count) places → ParentsOf (s .rows) (c .lefts) (c .rights) (s .graph .count) parents → Drawn (drawing toward by rank (c .inb) places parents (s .graph .count)) (termsIn (w .from)) (literalsIn (w .from)) (tableOf (termsIn (w .from)) (w .state)) (w .state .graph)
+drawn-of {t} {s} w toward by rank places parents c rooted laid counts ends =
+    let ts = termsIn (w .from) in
+    let ls = literalsIn (w .from) in
+    let sound = on-run-sound (on-run w) in
     record {
-      sound = on-run-sound (on-run w) .edges;
-      lower = on-run-sound (on-run w) .lower;
+      sound = sound .edges;
+      lower = sound .lower;
       small = w .shows .within;
       counted = sym (w .shows .count);
       few = can-root (on-run w) .0;
-      long = flat .long;
-      arity = λ v l. omega (arith, shown-arity ts ls (w .state) s (w .shows) v l, arity-small (on-run w) v l);
-      arguments = λ v l. arguments-flat ts ls (w .state) s (w .shows) args flat v l (arity-small (on-run w) v l);
+      arity = arity-small (on-run w);
       rooted = subst (λ (G : Graph). RootedBy G toward by rank) (w .shows .edges) rooted;
-      edges = subst (Each (EdgeAt (c .lefts) (c .rights) (c .inb) (c .derived))) (w .shows .edges) laid;
+      edges = edges-drawn ts ls (w .state) s (w .shows) (arity-small (on-run w)) c places parents (sound .edges) counts ends (subst (Each (PartsAt (c .lefts) (c .rights) (c .inb) (c .derived))) (w .shows .edges) laid);
     }
 
 -- records that are put where they have room are written over the buffer there

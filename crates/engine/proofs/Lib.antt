@@ -3,5 +3,5 @@ pub mod Searches
 pub mod Writing
 pub mod AddedRecords
 pub mod Answering
-pub mod Layouts
+pub mod ParentEnds
 pub mod LastState

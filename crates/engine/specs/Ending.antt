@@ -4,7 +4,7 @@ use mathlib.Core.List.{List, [], _∷_, _++_, flatMap}
 use mathlib.Core.Option.{some, Option·getD}
 use mathlib.Core.Path.{_≡_}
 use Prim.Native.Nat.{ℕ, _+_, _*_, _/_, _%_, _≤_, _<_}
-use lib.Dec.{eqb}
+use lib.Dec.{eqb, ltb}
 use lib.ListN.{length, getD}
 use Rattle.tables.specs.Words.{below, firstBelow}
 use Rattle.tables.specs.Bytes.{wordBytes}
@@ -22,8 +22,6 @@ use Rattle.running.specs.declared.Row.{Row}
 use Rattle.running.specs.Opening.{ReadFrom}
 use Rattle.running.specs.declared.state.State.{State as Arrays}
 use Rattle.clauses.specs.Reading.{literalAt, critical}
-use Rattle.marking.specs.declared.drawing.Drawing.{Drawing}
-use Rattle.marking.specs.Drawn.{Drawn}
 use Rattle.demands.specs.Buffers.{writtenOver}
 use Rattle.demands.specs.Call.{recordsIn}
 
@@ -40,14 +38,6 @@ pub record Ends (t : Tables) (s : Arrays) : Type 0 where
   pub state : State
   pub last : ownRun (termsIn from) (literalsIn from) ≡ some state
   pub shows : Shows (termsIn from) (literalsIn from) state s
-
--- they show it, for some tables
-abbrev pub EndsSome : Arrays → Type 0
-EndsSome s = (t : Tables) × Ends t s
-
--- the last graph is drawn for the clause layer, whatever tables led to it
-abbrev pub DrawnLast : Arrays → Drawing → Type 0
-DrawnLast s arrays = (t : Tables) (w : Ends t s) → Drawn arrays (termsIn (w .from)) (literalsIn (w .from)) (tableOf (termsIn (w .from)) (w .state)) (w .state .graph)
 
 -- and d is the critical disequality there
 pub record Decides (t : Tables) (s : Arrays) (d : ℕ) : Type 0 where
@@ -101,7 +91,20 @@ recordIn given symbols arities rows k = recordBytes (getD symbols (given + k) 0)
 abbrev pub recordsBytes : ℕ → ℕ → List ℕ → List ℕ → List Row → List ℕ
 recordsBytes given count symbols arities rows = flatMap (recordIn given symbols arities rows) (below count)
 
--- the fields of the first n rows stand one behind the other, four for each row
-pub record FlatRows (n : ℕ) (rows : List Row) (args : List ℕ) : Type 0 where
-  pub long : length args ≡ 2044
-  pub at : (k : ℕ) → k < 4 * n → getD args k 0 ≡ getD (getD rows (k / 4) noRow .args) (k % 4) 0
+-- the ends of the first edges are terms
+abbrev pub EndsIn : List ℕ → ℕ → Type 0
+EndsIn ends count = (i : ℕ) → i < count → getD ends i 0 < 511
+
+-- the counts of their parent paths: for a derived edge the arity of its ends
+abbrev pub PlacesOf : List ℕ → List Bool → List ℕ → ℕ → List ℕ → Type 0
+PlacesOf lefts derived arities count places =
+    (i : ℕ) → i < count → getD places i 0 ≡ cond (getD derived i false) (getD arities (getD lefts i 0) 0) 0
+
+-- the field at place k of the edges' ends, eight for each edge: four of the left end's row, and four of the right end's
+abbrev pub parentAt : List Row → List ℕ → List ℕ → ℕ → ℕ
+parentAt rows lefts rights k =
+    getD (getD rows (cond (ltb (k % 8) 4) (getD lefts (k / 8) 0) (getD rights (k / 8) 0)) noRow .args) (k % 4) 0
+
+-- the fields of the first edges stand one behind the other
+abbrev pub ParentsOf : List Row → List ℕ → List ℕ → ℕ → List ℕ → Type 0
+ParentsOf rows lefts rights count parents = (k : ℕ) → k < 8 * count → getD parents k 0 ≡ parentAt rows lefts rights k

@@ -27,7 +27,7 @@ use Rattle.running.specs.declared.Row.{Row}
 use Rattle.graphs.specs.declared.paths.Trail.{Trail}
 use Rattle.running.specs.declared.step.Choice.{Choice}
 use Rattle.closure.proofs.Running.Congruent.{pairwise-head, pairwise-tail}
-use Rattle.closure.proofs.Running.Larger.{each-map}
+use Rattle.closure.proofs.Walking.ParentPaths.{each-map}
 use Rattle.closure.proofs.Running.Vertices.{EndsAmong, walk-among}
 use Rattle.closure.proofs.Walking.Walks.{path-walk}
 

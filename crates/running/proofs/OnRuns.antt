@@ -31,7 +31,8 @@ use Rattle.running.specs.declared.state.Stepped.{Stepped}
 use Rattle.closure.proofs.Walking.Invariant.{SoundEdge, Unjoined}
 use Rattle.running.proofs.Agreeing.{joined-labels}
 use Rattle.closure.proofs.Running.Congruent.{congruent-arguments}
-use Rattle.closure.proofs.Running.Larger.{each-map, extends-term}
+use Rattle.closure.proofs.Running.Larger.{extends-term}
+use Rattle.closure.proofs.Walking.ParentPaths.{each-map}
 use Rattle.closure.proofs.Running.Vertices.{EndsAmong, added-vertex, vertex-within, chosen-joined}
 use Rattle.closure.proofs.Running.States.{SoundState, given-first}
 use Rattle.closure.proofs.Running.Runs.{middle-ends, run-sound, run-known}

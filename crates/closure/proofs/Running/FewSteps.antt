@@ -18,9 +18,9 @@ use Rattle.tables.proofs.Colours.{SidesWithin, inUse-within}
 use Rattle.closure.specs.Graph.{Graph}
 use Rattle.closure.specs.Steps.{State, tableOf, vertex, Run, NoStepLeft}
 use Rattle.closure.specs.OwnRun.{ownRun}
-use Rattle.closure.proofs.Walking.Invariant.{Each, SoundEdge, Unjoined}
+use Rattle.closure.proofs.Walking.Invariant.{Each}
 use Rattle.closure.proofs.Walking.Count.{once-keep, once-below, EndsIn, fewer-edges}
-use Rattle.closure.proofs.Running.Larger.{each-map}
+use Rattle.closure.proofs.Walking.ParentPaths.{each-map, sound-forest}
 use Rattle.closure.proofs.Running.Vertices.{EndsAmong, vertex-cases, vertex-within}
 use Rattle.closure.proofs.Running.States.{SoundState, inUse-vertex}
 use Rattle.closure.proofs.Running.Runs.{run-sound, run-known}
@@ -102,7 +102,7 @@ module _ (ts : List Term) (ls : List Literal) (st : State) where
   edges-few r v h =
       let vs = vertexList ts ls st in
       let ends : EndsIn vs (st .graph) = each-map (EndsAmong (vertex ts ls st)) (λ G e. List·Memᴰ (e .left) vs × List·Memᴰ (e .right) vs) (λ G e p. (vertex-listed (e .left) (p .0), vertex-listed (e .right) (p .1))) (st .graph) (r .ends) in
-      let fewer = fewer-edges (st .graph) (each-map (SoundEdge ts ls (tableOf ts st)) Unjoined (λ G e p. p .unjoined) (st .graph) (r .edges)) vs (once-keep (vertex ts ls st) (once-below (length (tableOf ts st)))) ends (member-length (vertex-listed v h)) in
+      let fewer = fewer-edges (st .graph) (sound-forest ts ls (tableOf ts st) (st .graph) (r .edges)) vs (once-keep (vertex ts ls st) (once-below (length (tableOf ts st)))) ends (member-length (vertex-listed v h)) in
       omega (arith, fewer, vertices-few)
 
 module _ (ts : List Term) (ls : List Literal) (low : LowerArguments ts) (within : SidesWithin ts ls) where

@@ -17,11 +17,7 @@ use Rattle.closure.specs.Graph.{Edge, EdgeKind, basic, derived, Graph, j
 use Rattle.closure.specs.Steps.{congruent}
 use Rattle.closure.proofs.Running.Congruent.{congruent-symbol, congruent-arguments, congruent-made}
 use Rattle.closure.proofs.Walking.Invariant.{Each, Behind, SoundEdge, SoundGraph}
-
--- what holds of each edge implies what follows from it
-pub each-map : (P Q : Graph → Edge → Type 0) → ((H : Graph) (e : Edge) → P H e → Q H e) → (G : Graph) → Each P G → Each Q G
-each-map P Q f [] p = tt
-each-map P Q f (e ∷ G) p = (f G e (p .0), each-map P Q f G (p .1))
+use Rattle.closure.proofs.Walking.ParentPaths.{each-map}
 
 -- ---- colours
 

@@ -20,7 +20,8 @@ use Rattle.tables.proofs.Colours.{SidesWithin, colourable-own, colourable-built
 use Rattle.closure.specs.Graph.{derived, Graph, joinedPairwise}
 use Rattle.closure.specs.Steps.{State, tableOf, vertex, congruent, middleTerm, equalTerms, vertexEqual, Placed, placeAs, placed, tied, tiedBoth, withMiddle, Chosen}
 use Rattle.closure.proofs.Running.Congruent.{congruent-symbol, congruent-arguments, congruent-made, congruent-sym, congruent-trans}
-use Rattle.closure.proofs.Running.Larger.{each-map, shared-side, sides-shared, ends-edge, Extends, extends-term, extends-colourable, extends-shared, extends-congruent, extends-sound}
+use Rattle.closure.proofs.Walking.ParentPaths.{each-map}
+use Rattle.closure.proofs.Running.Larger.{shared-side, sides-shared, ends-edge, Extends, extends-term, extends-colourable, extends-shared, extends-congruent, extends-sound}
 use Rattle.closure.proofs.Running.Vertices.{vertex-cases, used-vertex, added-vertex, vertex-within, vertex-stays, EndsAmong, chosen-shared, chosen-among, chosen-joined}
 use Rattle.closure.proofs.Running.States.{SoundState, Known, Ties, ties-sound, ties-edge, tied-either, inUse-vertex}
 

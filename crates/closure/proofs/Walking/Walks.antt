@@ -28,6 +28,11 @@ older-each P (onward q) p = subst (Each P) (sym (ap (λ (g : Hop). g .older) q))
 older-each P (backward q) p = subst (Each P) (sym (ap (λ (g : Hop). g .older) q)) (p .1)
 older-each P (earlier k) p = older-each P k (p .1)
 
+-- what each edge has gives each edge of the graph another property
+pub each-over : (P Q : Graph → Edge → Type 0) (G : Graph) → ((H : Graph) (e : Edge) → HopOf (forth e H) G → P H e → Q H e) → Each P G → Each Q G
+each-over P Q [] f p = tt
+each-over P Q (e ∷ G) f p = (f G e (onward refl) (p .0), each-over P Q G (λ H x k. f H x (earlier k)) (p .1))
+
 -- they are fewer
 pub older-fewer : {h : Hop} {G : Graph} → HopOf h G → length (h .older) < length G
 older-fewer (onward {e = e} {G = G} q) = subst (λ (H : Graph). length H < length (e ∷ G)) (sym (ap (λ (g : Hop). g .older) q)) (le-refl (length (e ∷ G)))

@@ -52,7 +52,7 @@ use Rattle.closure.proofs.Edge as E
 use Rattle.closure.proofs.Edge.Laws as E′
 use Rattle.graphs.proofs.graph.Graph as G
 use Rattle.graphs.proofs.graph.Graph.Laws as G′
-use Rattle.marking.specs.Drawn.{EdgeAt}
+use Rattle.marking.specs.Drawn.{PartsAt}
 use Rattle.marking.specs.declared.edges.Columns.{Columns}
 use Rattle.marking.proofs.edges.Columns as T
 use Rattle.marking.proofs.edges.Columns.Laws as T′
@@ -146,7 +146,7 @@ module _ {M : Type 1} (𝓤 : URA M) (H : Heap 𝓤) (A : Atoms 𝓤) (W : Given
 
   -- the edges stand under their numbers
   abbrev Stand : Columns → Type 0
-  Stand r = Each (EdgeAt (r .lefts) (r .rights) (r .inb) (r .derived)) (newestFirst (g .count) es)
+  Stand r = Each (PartsAt (r .lefts) (r .rights) (r .inb) (r .derived)) (newestFirst (g .count) es)
 
   room : Room E.the-row (length es)
   room = (omega (arith, long g is), omega (arith, long g is))
