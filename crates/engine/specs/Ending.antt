@@ -18,6 +18,7 @@ use Rattle.closure.specs.Steps.{State, tableOf}
 use Rattle.closure.specs.OwnRun.{ownRun}
 use Rattle.running.specs.Shown.{Shows}
 use Rattle.running.specs.Keys.{noRow}
+use Rattle.graphs.specs.declared.graph.Graph.{Graph}
 use Rattle.running.specs.declared.Row.{Row}
 use Rattle.running.specs.Opening.{ReadFrom}
 use Rattle.running.specs.declared.state.State.{State as Arrays}
@@ -43,6 +44,11 @@ pub record Ends (t : Tables) (s : Arrays) : Type 0 where
 pub record Decides (t : Tables) (s : Arrays) (d : ℕ) : Type 0 where
   pub ends : Ends t s
   pub found : critical (literalsIn (ends .from)) (ends .state .graph) ≡ some d
+
+-- the arrays of a state that the clause layer is lent, and what else the state has
+abbrev pub lentOf : Arrays → Graph → List Row → List ℕ → List ℕ → List ℕ → ℕ → Arrays
+lentOf s graph rows labels arities colours terms =
+    record { terms = terms; symbols = s .symbols; arities = arities; rows = rows; colours = colours; vertices = s .vertices; graph = graph; labels = labels; stuck = s .stuck }
 
 -- the clause records of that disequality
 abbrev pub recordsFor : {t : Tables} {s : Arrays} {d : ℕ} → Decides t s d → List (List ℕ)

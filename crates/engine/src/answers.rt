@@ -6,7 +6,6 @@ use super::summaries;
 use super::verdict;
 use demands::Answer;
 use running::state::State;
-use running::state::Stepped;
 use tables::Found;
 use tables::Tables;
 ghost use mathlib.Core.List.{List, map};
@@ -56,14 +55,25 @@ fn inconsistent(
         };
     }
     let room = clauses.len() / 8;
-    let records = summaries::clause_records(st, d, literals, clauses);
+    let graph = st.graph;
+    let rows = st.rows;
+    let records = summaries::clause_records(
+        graph,
+        rows,
+        &st.labels,
+        &st.arities,
+        &st.colours,
+        st.terms,
+        d,
+        literals,
+        clauses,
+    );
     if room < records {
         return Answer::Refused {
             number: 7,
             place: 2,
         };
     }
-    let rows = st.rows;
     added::write_added(&st.symbols, &st.arities, rows, t.terms, count, added);
     Answer::Inconsistent {
         disequality: d,
@@ -75,7 +85,7 @@ fn inconsistent(
 // Row 8 stands before row 7. "The critical disequality is the lowest record of kind 2 whose sides are joined when no step is left. None: consistent."
 pub fn ended(
     t: Tables,
-    end: Stepped,
+    end: State,
     literals: &[u8],
     partition: &mut [u8],
     added: &mut [u8],
@@ -90,10 +100,9 @@ pub fn ended(
             place: 0,
         };
     }
-    let st = end.state;
-    let found = verdict::critical(literals, &st.labels);
+    let found = verdict::critical(literals, &end.labels);
     match found {
-        Found::At(d) => inconsistent(t, st, d, literals, added, clauses),
-        Found::Nothing => consistent(&t.used, &st.labels, t.terms, partition),
+        Found::At(d) => inconsistent(t, end, d, literals, added, clauses),
+        Found::Nothing => consistent(&t.used, &end.labels, t.terms, partition),
     }
 }

@@ -1,25 +1,35 @@
 // The clause records of the critical disequality, off the run's last state.
 
 use super::forest;
+use graphs::graph::Graph;
 use graphs::rooting;
 use reading::literal;
-use running::state::State;
+use running::Row;
 use summing::summary;
 ghost use mathlib.Core.Path.{_≡_};
 ghost use Rattle.tables.specs.declared.Tables.{Tables as Read};
-ghost use Rattle.engine.specs.Ending.{Decides, recordsFor, Written};
+ghost use Rattle.running.specs.declared.state.State.{State as Arrays};
+ghost use Rattle.engine.specs.Ending.{Decides, lentOf, recordsFor, Written};
 
 // Counts the records, and writes them where all of them have room.
-pub fn clause_records(st: State, d: usize, literals: &[u8], out: &mut [u8]) -> usize
-    requires { ⌜ ((t : Read) × (w : Decides t st d) × (w .ends .from .literals ≡ now literals)) ⌝ }
-    ensures { λ r. ⌜ ((t : Read) (w : Decides t st d) → w .ends .from .literals ≡ now (literals .entry) → Written (recordsFor w) (now (out .entry)) r (now (out .exit))) ⌝ }
+pub fn clause_records<'a>(
+    graph: Graph,
+    rows: [Row; 511],
+    labels: &'a [u16; 511],
+    arities: &'a [u8; 511],
+    colours: &'a [u8; 511],
+    terms: usize,
+    d: usize,
+    literals: &[u8],
+    out: &mut [u8],
+) -> usize
+    requires { ⌜ ((t : Read) × (s : Arrays) × (w : Decides t (lentOf s graph «rows» (now labels) (now arities) (now colours) terms) d) × (w .ends .from .literals ≡ now literals)) ⌝ }
+    ensures { λ r. ⌜ ((t : Read) (s : Arrays) (w : Decides t (lentOf s graph «rows» (now (labels .entry)) (now (arities .entry)) (now (colours .entry)) terms) d) → w .ends .from .literals ≡ now (literals .entry) → Written (recordsFor w) (now (out .entry)) r (now (out .exit))) ⌝ }
 {
-    let graph = st.graph;
     let count = graph.count;
-    let root = rooting::rooted(graph, &st.labels);
+    let root = rooting::rooted(graph, labels);
     let edges = forest::laid_out(graph);
-    let places = forest::places(&edges.lefts, &edges.derived, &st.arities, count);
-    let rows = st.rows;
+    let places = forest::places(&edges.lefts, &edges.derived, arities, count);
     let mut parents = [0u16; 4080];
     forest::lay_parents(rows, &edges.lefts, &edges.rights, count, &mut parents);
     let l = literal::read_at(literals, d);
@@ -31,8 +41,8 @@ pub fn clause_records(st: State, d: usize, literals: &[u8], out: &mut [u8]) -> u
         &places,
         &parents,
         count,
-        st.terms as u16,
-        &st.colours,
+        terms as u16,
+        colours,
         l.side == 1,
         l.left,
         l.right,

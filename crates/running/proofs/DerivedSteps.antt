@@ -23,7 +23,6 @@ use Rattle.closure.specs.OwnRun.{derivable, middleFrom, derivedStep}
 use Rattle.running.specs.Stepping.{OnRun, Apart, colouring, Outcome}
 use Rattle.running.specs.declared.step.Colouring.the-variants.{Of, Middle}
 use Rattle.running.specs.declared.state.State.{State as Arrays}
-use Rattle.running.specs.declared.state.Stepped.{Stepped}
 use Rattle.closure.proofs.Running.Congruent.{congruent-sym}
 use Rattle.closure.proofs.Running.Vertices.{vertex-within}
 use Rattle.closure.proofs.Running.OwnSteps.{unjoined-sym, apart-from-left, apart-from-right}
@@ -203,7 +202,7 @@ module _ {a : Arrays} (run : OnRun a) (s t : ℕ) (d : T (derivable (run .ts) (r
         record { left-vertex = left-vertex; right-vertex = right-vertex; unjoined = unjoined; alike = alike; left-a = sa; left-not-b = w .0; right-b = w .1; right-not-a = w .2 }
 
     -- it is the step then
-    pub outcome-left : eqb (x % 2) 1 ≡ true → (r : Stepped) → Outcome ts ls (middleFrom ts ls st s t) r → Outcome ts ls (derivedStep ts ls st (pair s t)) r
+    pub outcome-left : eqb (x % 2) 1 ≡ true → (r : Arrays) → Outcome ts ls (middleFrom ts ls st s t) r → Outcome ts ls (derivedStep ts ls st (pair s t)) r
     outcome-left e r h = subst (λ (o : Option State). Outcome ts ls o r) (sym (step-is false false true edge-not-b edge-not-a (sym (odd-at s left-vertex) ∙ e))) h
 
     -- and from t
@@ -214,5 +213,5 @@ module _ {a : Arrays} (run : OnRun a) (s t : ℕ) (d : T (derivable (run .ts) (r
         record { left-vertex = right-vertex; right-vertex = left-vertex; unjoined = unjoined-sym (st .graph) s t unjoined; alike = congruent-sym table (st .graph) s t alike; left-a = w .0; left-not-b = w .1; right-b = w .2; right-not-a = sa }
 
     -- it is the step then
-    pub outcome-right : eqb (x % 2) 1 ≡ false → (r : Stepped) → Outcome ts ls (middleFrom ts ls st t s) r → Outcome ts ls (derivedStep ts ls st (pair s t)) r
+    pub outcome-right : eqb (x % 2) 1 ≡ false → (r : Arrays) → Outcome ts ls (middleFrom ts ls st t s) r → Outcome ts ls (derivedStep ts ls st (pair s t)) r
     outcome-right e r h = subst (λ (o : Option State). Outcome ts ls o r) (sym (step-is false false false edge-not-b edge-not-a (sym (odd-at s left-vertex) ∙ e))) h

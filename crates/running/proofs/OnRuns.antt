@@ -27,7 +27,6 @@ use Rattle.running.specs.Stepping.{Choosing, ChoiceOf, Placing, OnRun, A
 use Rattle.running.specs.declared.Row.{Row}
 use Rattle.running.specs.declared.state.State.{State as Arrays}
 use Rattle.running.specs.declared.step.Choice.{Choice}
-use Rattle.running.specs.declared.state.Stepped.{Stepped}
 use Rattle.closure.proofs.Walking.Invariant.{SoundEdge, Unjoined}
 use Rattle.running.proofs.Agreeing.{joined-labels}
 use Rattle.closure.proofs.Running.Congruent.{congruent-arguments}
@@ -282,7 +281,7 @@ module _ {a : Arrays} (run : OnRun a) where
           omega (arith, shown′ .count, ap (λ (z : State). length (z .graph)) (tied-new half t k B n), both-edges)
 
       -- what the code hands out is the middle step
-      pub middle-outcome : (r : Stepped) → r .stuck ≡ false → Shows ts ls (tied (tied (put .state) s k A) t k B) (r .state) → Outcome ts ls (middleFrom ts ls st s t) r
+      pub middle-outcome : (r : Arrays) → r .stuck ≡ false → Shows ts ls (tied (tied (put .state) s k A) t k B) r → Outcome ts ls (middleFrom ts ls st s t) r
       unfolding withMiddle tiedBoth
       middle-outcome r free whole =
-          inr (free, (withMiddle ts ls st s t terms, middle-taken, subst (λ (x : ℕ). Shows ts ls (tied (tied (put .state) s x A) t x B) (r .state)) k-is whole))
+          inr (free, (withMiddle ts ls st s t terms, middle-taken, subst (λ (x : ℕ). Shows ts ls (tied (tied (put .state) s x A) t x B) r) k-is whole))

@@ -19,15 +19,14 @@ use Rattle.tables.proofs.Filled.{filled-behind}
 use Rattle.tables.proofs.Sound.{SoundTables, length-termsOf, termAt-termsOf, arity-small, lower-arguments, sides-within}
 use Rattle.closure.specs.Steps.{State, begin, tableOf, Step, Run, start, next}
 use Rattle.closure.specs.OwnRun.{basicSteps, derivable, firstPair, derivedStep, turnsAt, ownRun}
-use Rattle.running.specs.Shown.{padded, rowFor, Shows}
+use Rattle.running.specs.Shown.{padded, rowFor, Shows, halted}
 use Rattle.running.specs.Keys.{noRow, FieldsWithin, Orderly, OneArity}
 use Rattle.running.specs.Opening.{ReadFrom}
 use Rattle.running.specs.Stepping.{Checked, OnRun, Outcome, Ends}
 use Rattle.running.specs.declared.Row.{Row}
 use Rattle.running.specs.declared.state.State.{State as Arrays}
-use Rattle.running.specs.declared.state.Stepped.{Stepped}
 use Rattle.running.proofs.Arrays.{zeros-behind}
-use Rattle.running.proofs.Showing.{shown-arity, shown-row}
+use Rattle.running.proofs.Showing.{shown-arity, shown-row, shows-halted}
 use Rattle.running.proofs.Beginning.{sound-tables, terms-are, arity-length}
 use Rattle.closure.proofs.Running.OwnSteps.{basic-steps-run}
 use Rattle.closure.proofs.Running.OwnRun.{turns-none, turns-stuck, turns-some, first-pair-step}
@@ -109,15 +108,15 @@ module _ {first : Arrays} (run : OnRun first) (given : ℕ) where
     onward = record { ts = ts; ls = ls; reached = w .reached; checked = run .checked; shows = w .shows; steps = w .steps; run = w .going }
 
     -- what is handed out is the state
-    shown-end : (r : Stepped) → r .stuck ≡ false → r .state ≡ a → end ≡ some (w .reached) → Outcome ts ls end r
-    shown-end r free is e = inr (free, (w .reached, e, subst (Shows ts ls (w .reached)) (sym is) (w .shows)))
+    shown-end : end ≡ some (w .reached) → Outcome ts ls end (halted a false)
+    shown-end e = inr (refl, (w .reached, e, shows-halted ts ls (w .reached) a false (w .shows)))
 
     -- all turns are taken
-    pub no-turn-left : turns ≤ 0 → (r : Stepped) → r .stuck ≡ false → r .state ≡ a → Outcome ts ls end r
+    pub no-turn-left : turns ≤ 0 → Outcome ts ls end (halted a false)
     unfolding turnsAt
-    no-turn-left l r free is =
+    no-turn-left l =
         let z : turns ≡ 0 = omega arith in
-        shown-end r free is (w .left ∙ ap (λ (k : ℕ). turnsAt (firstPair ts ls) (derivedStep ts ls) k (w .reached)) z)
+        shown-end (w .left ∙ ap (λ (k : ℕ). turnsAt (firstPair ts ls) (derivedStep ts ls) k (w .reached)) z)
 
     module _ (more : 0 < turns) where
       -- there is a turn
@@ -129,36 +128,37 @@ module _ {first : Arrays} (run : OnRun first) (given : ℕ) where
       turn-is = w .left ∙ ap (λ (k : ℕ). turnsAt (firstPair ts ls) (derivedStep ts ls) k (w .reached)) one-more
 
       -- no pair is left
-      pub no-pair-left : firstPair ts ls (w .reached) ≡ none → (r : Stepped) → r .stuck ≡ false → r .state ≡ a → Outcome ts ls end r
-      no-pair-left e r free is = shown-end r free is (turn-is ∙ turns-none (firstPair ts ls) (derivedStep ts ls) (turns - 1) (w .reached) e)
+      pub no-pair-left : firstPair ts ls (w .reached) ≡ none → Outcome ts ls end (halted a false)
+      no-pair-left e = shown-end (turn-is ∙ turns-none (firstPair ts ls) (derivedStep ts ls) (turns - 1) (w .reached) e)
 
-      module _ (p : Pair) (e : firstPair ts ls (w .reached) ≡ some p) (r : Stepped) (o : Outcome ts ls (derivedStep ts ls (w .reached) p) r) where
+      module _ (p : Pair) (e : firstPair ts ls (w .reached) ≡ some p) (r : Arrays) where
         -- row 8
-        pub turn-stuck : r .stuck ≡ true → Outcome ts ls end r
-        turn-stuck q =
+        pub turn-stuck : Outcome ts ls (derivedStep ts ls (w .reached) p) r → r .stuck ≡ true → Outcome ts ls end r
+        turn-stuck o q =
             ⊎-elim
             (λ h. inl (q, turn-is ∙ turns-stuck (firstPair ts ls) (derivedStep ts ls) (turns - 1) (w .reached) p e (h .1)))
             (λ h. absurd (not-both (h .0) q))
             o
 
-        -- a step taken
-        pub turn-taken : r .stuck ≡ false → TurnsLeft run given (r .state) (turns - 1)
-        turn-taken q = ⊎-elim (λ h. absurd (not-both q (h .0))) (λ h. go (h .1 .0) (h .1 .1) (h .1 .2)) o
+        -- a step taken, to the arrays that show where it leads
+        pub turn-shown : (after : State) → derivedStep ts ls (w .reached) p ≡ some after → Shows ts ls after r → TurnsLeft run given r (turns - 1)
+        turn-shown after d shows =
+            let x = first-pair-step ts ls (run .checked .lower) (run .checked .sides) (w .reached) (on-run-sound onward) p e in
+            record {
+              reached = after;
+              shows = shows;
+              steps = suc (w .steps);
+              going = next (w .going) (subst (Step ts ls (w .reached)) (same (x .0) after (sym (x .1) ∙ d)) (x .2));
+              left = turn-is ∙ turns-some (firstPair ts ls) (derivedStep ts ls) (turns - 1) (w .reached) after p e d;
+            }
           where
-            go : (after : State) → derivedStep ts ls (w .reached) p ≡ some after → Shows ts ls after (r .state) → TurnsLeft run given (r .state) (turns - 1)
-            go after d shows =
-                let x = first-pair-step ts ls (run .checked .lower) (run .checked .sides) (w .reached) (on-run-sound onward) p e in
-                record {
-                  reached = after;
-                  shows = shows;
-                  steps = suc (w .steps);
-                  going = next (w .going) (subst (Step ts ls (w .reached)) (same (x .0) after (sym (x .1) ∙ d)) (x .2));
-                  left = turn-is ∙ turns-some (firstPair ts ls) (derivedStep ts ls) (turns - 1) (w .reached) after p e d;
-                }
-              where
-                -- a step leads to one state
-                same : (z after : State) → some z ≡ some after → z ≡ after
-                same z after h = cc
+            -- a step leads to one state
+            same : (z after : State) → some z ≡ some after → z ≡ after
+            same z after h = cc
+
+        -- by what came out of it
+        pub turn-taken : Outcome ts ls (derivedStep ts ls (w .reached) p) r → r .stuck ≡ false → TurnsLeft run given r (turns - 1)
+        turn-taken o q = ⊎-elim (λ h. absurd (not-both q (h .0))) (λ h. turn-shown (h .1 .0) (h .1 .1) (h .1 .2)) o
 
 -- ---- from the tables
 
@@ -241,7 +241,7 @@ module _ (t : Tables) (from : ReadFrom t) where
     turns-given = terms-are t from ∙ sym (length-termsOf bs)
 
     -- so the turns end the library's own run
-    pub ends : (r : Stepped) → ((run : OnRun a) → t .terms ≡ length (run .ts) → Outcome (run .ts) (run .ls) (turnsAt (firstPair (run .ts) (run .ls)) (derivedStep (run .ts) (run .ls)) (t .terms) (run .reached)) r) → Ends given literals r
+    pub ends : (r : Arrays) → ((run : OnRun a) → t .terms ≡ length (run .ts) → Outcome (run .ts) (run .ls) (turnsAt (firstPair (run .ts) (run .ls)) (derivedStep (run .ts) (run .ls)) (t .terms) (run .reached)) r) → Ends given literals r
     unfolding after-basic ownRun
     ends r h =
         subst (λ (k : ℕ). Outcome given literals (turnsAt (firstPair given literals) (derivedStep given literals) k (basicSteps literals begin)) r)

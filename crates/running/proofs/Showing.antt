@@ -24,7 +24,7 @@ use Rattle.closure.specs.declared.Edge.{Edge}
 use Rattle.closure.specs.declared.EdgeKind.{EdgeKind}
 use Rattle.closure.specs.Steps.{State, tableOf, vertex, withEdge}
 use Rattle.graphs.specs.Layout.{edgesOf, labelsOf}
-use Rattle.running.specs.Shown.{padded, rowFor, column, Shows, withTerm, regraphed}
+use Rattle.running.specs.Shown.{padded, rowFor, column, Shows, withTerm, regraphed, halted}
 use Rattle.running.specs.Keys.{noRow}
 use Rattle.running.specs.declared.Row.{Row}
 use Rattle.graphs.specs.declared.graph.Graph.{Graph as Kept}
@@ -103,6 +103,11 @@ module _ (ts : List Term) (ls : List Literal) (st : State) (s : Arrays) (h : Sho
         labels = new ∙ shown-labels e l r;
       }
 
+-- whether the run is stuck is no part of what is shown
+pub shows-halted : (ts : List Term) (ls : List Literal) (st : State) (s : Arrays) (b : Bool) → Shows ts ls st s → Shows ts ls st (halted s b)
+shows-halted ts ls st s b h =
+    record { within = h .within; terms = h .terms; symbols = h .symbols; arities = h .arities; rows = h .rows; colours = h .colours; vertices = h .vertices; edges = h .edges; count = h .count; labels = h .labels }
+
 -- ---- one term more
 
 -- a shared term has both colours
@@ -161,7 +166,7 @@ module _ (ts : List Term) (ls : List Literal) (st : State) (m : Term) where
 -- the arrays with one term more at a place
 abbrev pub enlarged : Arrays → ℕ → ℕ → Row → ℕ → Arrays
 enlarged s symbol arity row n =
-    record { terms = n + 1; symbols = set (s .symbols) n symbol; arities = set (s .arities) n arity; rows = set (s .rows) n row; colours = set (s .colours) n 3; vertices = set (s .vertices) n true; graph = s .graph; labels = s .labels }
+    record { terms = n + 1; symbols = set (s .symbols) n symbol; arities = set (s .arities) n arity; rows = set (s .rows) n row; colours = set (s .colours) n 3; vertices = set (s .vertices) n true; graph = s .graph; labels = s .labels; stuck = s .stuck }
 
 pub shows-term : (ts : List Term) (ls : List Literal) (st : State) (s : Arrays) (m : Term) (symbol arity : ℕ) (row : Row) → s .terms < 511 → Shows ts ls st s → LowerArguments (tableOf ts st) → m .symbol ≡ symbol → length (m .arguments) ≡ arity → row .args ≡ padded (m .arguments) → T (shared ts ls (tableOf ts st ++ (m ∷ [])) (length (tableOf ts st))) → Shows ts ls (withTerm st m) (enlarged s symbol arity row (s .terms))
 shows-term ts ls st s m symbol arity row small h lower symbol-is arity-is row-is shared-is =

@@ -75,4 +75,4 @@ OneArity ts = (s t : ℕ) → s < length ts → t < length ts → termAt ts s .s
 -- the arrays of a state, with those that the search is lent
 abbrev pub searched : Arrays → List ℕ → List ℕ → List Bool → List ℕ → List Row → Arrays
 searched s labels symbols vertices arities rows =
-    record { terms = s .terms; symbols = symbols; arities = arities; rows = rows; colours = s .colours; vertices = vertices; graph = s .graph; labels = labels }
+    record { terms = s .terms; symbols = symbols; arities = arities; rows = rows; colours = s .colours; vertices = vertices; graph = s .graph; labels = labels; stuck = s .stuck }

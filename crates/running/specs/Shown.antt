@@ -1,5 +1,5 @@
 -- How the arrays of the code show a state of a run. Past the terms an array holds 0, or false.
-use mathlib.Core.Bool.{false}
+use mathlib.Core.Bool.{Bool, false}
 use mathlib.Core.List.{List, [], _∷_, _++_}
 use mathlib.Core.Path.{_≡_}
 use Prim.Native.Nat.{ℕ, _-_, _≤_}
@@ -44,4 +44,9 @@ withTerm st m = record { added = st .added ++ (m ∷ []); graph = st .graph }
 -- the arrays with another graph and other labels
 abbrev pub regraphed : Arrays → Kept → List ℕ → Arrays
 regraphed s g labels =
-    record { terms = s .terms; symbols = s .symbols; arities = s .arities; rows = s .rows; colours = s .colours; vertices = s .vertices; graph = g; labels = labels }
+    record { terms = s .terms; symbols = s .symbols; arities = s .arities; rows = s .rows; colours = s .colours; vertices = s .vertices; graph = g; labels = labels; stuck = s .stuck }
+
+-- the arrays with the other answer to whether the run is stuck
+abbrev pub halted : Arrays → Bool → Arrays
+halted s b =
+    record { terms = s .terms; symbols = s .symbols; arities = s .arities; rows = s .rows; colours = s .colours; vertices = s .vertices; graph = s .graph; labels = s .labels; stuck = b }

@@ -26,7 +26,6 @@ use Rattle.running.specs.declared.step.Met.the-variants.{At, Nothing}
 use Rattle.running.specs.declared.step.Choice.{Choice}
 use Rattle.running.specs.declared.step.Colouring.{Colouring}
 use Rattle.running.specs.declared.step.Colouring.the-variants.{Of, Middle}
-use Rattle.running.specs.declared.state.Stepped.{Stepped}
 
 -- ---- the shared terms of the parent paths
 
@@ -121,10 +120,10 @@ unfoldable pub colouring : ℕ → ℕ → Colouring
 colouring x y = cond (leb 2 x && leb 2 y) (Of B) (cond (eqb (x % 2) 1 && eqb (y % 2) 1) (Of A) Middle)
 
 -- what comes out is row 8, or the arrays of the state
-abbrev pub Outcome : List Term → List Literal → Option State → Stepped → Type 0
+abbrev pub Outcome : List Term → List Literal → Option State → Arrays → Type 0
 Outcome ts ls o r =
-    ((r .stuck ≡ true) × (o ≡ none)) ⊎ ((r .stuck ≡ false) × ((after : State) × (o ≡ some after) × Shows ts ls after (r .state)))
+    ((r .stuck ≡ true) × (o ≡ none)) ⊎ ((r .stuck ≡ false) × ((after : State) × (o ≡ some after) × Shows ts ls after r))
 
 -- the library's own run, carried to its end
-abbrev pub Ends : List Term → List Literal → Stepped → Type 0
+abbrev pub Ends : List Term → List Literal → Arrays → Type 0
 Ends ts ls r = Outcome ts ls (ownRun ts ls) r

@@ -5,7 +5,6 @@ use super::edge::joined_on;
 use super::search::Pair;
 use super::search::first_pair;
 use super::state::State;
-use super::state::Stepped;
 use super::step;
 use super::step::Colouring;
 use closure::EdgeKind;
@@ -62,7 +61,7 @@ fn basic_steps(labels: &mut [u16; 511], graph: Graph, literals: &[u8]) -> Graph
 
 // "then, repeatedly, the derived step on the first pair .. until none is left": a run has fewer steps than there
 // are given terms, of which there are n.
-fn derived_steps(start: State, n: usize) -> Stepped
+fn derived_steps(start: State, n: usize) -> State
     requires { ⌜ ((run : OnRun start) × (n ≡ length (run .ts))) ⌝ }
     ensures { λ r. ⌜ ((run : OnRun start) → n ≡ length (run .ts) → Outcome (run .ts) (run .ls) (turnsAt (firstPair (run .ts) (run .ls)) (derivedStep (run .ts) (run .ls)) n (run .reached)) r) ⌝ }
 {
@@ -72,10 +71,8 @@ fn derived_steps(start: State, n: usize) -> Stepped
         let rows = st.rows;
         let found = first_pair(&st.labels, &st.symbols, &st.vertices, &st.arities, rows, n);
         let Pair::Of(s, t) = found else {
-            return Stepped {
-                stuck: false,
-                state: st,
-            };
+            st.stuck = false;
+            return st;
         };
         let colour = step::edge_colour(st.colours[s], st.colours[t]);
         if let Colouring::Of(side) = colour {
@@ -87,20 +84,17 @@ fn derived_steps(start: State, n: usize) -> Stepped
             if next.stuck {
                 return next;
             }
-            let after = next.state;
-            st = after;
+            st = next;
         }
         turns -= 1;
     }
-    Stepped {
-        stuck: false,
-        state: st,
-    }
+    st.stuck = false;
+    st
 }
 
 // The run from its first step, in the state of the given terms and no edge, to its last. That state is laid out here and not by a function of its own,
 // since it would be copied on its way back.
-pub fn own_run(t: Tables, given: [[u16; 4]; 256], literals: &[u8]) -> Stepped
+pub fn own_run(t: Tables, given: [[u16; 4]; 256], literals: &[u8]) -> State
     requires { ⌜ ((from : ReadFrom t) × (given ≡ argumentRows (from .terms)) × (from .literals ≡ now literals)) ⌝ }
     ensures { λ r. ⌜ ((from : ReadFrom t) → given ≡ argumentRows (from .terms) → from .literals ≡ now (literals .entry) → Ends (termsOf (from .terms)) (literalsOf (from .literals)) r) ⌝ }
 {
@@ -115,6 +109,7 @@ pub fn own_run(t: Tables, given: [[u16; 4]; 256], literals: &[u8]) -> Stepped
         vertices: [false; 511],
         graph: Graph::empty(),
         labels: labels::own_labels(),
+        stuck: false,
     };
     let mut i = 0;
     while i < terms {

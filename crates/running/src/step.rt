@@ -3,7 +3,6 @@
 use super::Row;
 use super::edge::joined_on;
 use super::state::State;
-use super::state::Stepped;
 use closure::EdgeKind;
 use graphs::graph::Graph;
 use graphs::paths;
@@ -146,7 +145,7 @@ fn tied(labels: &mut [u16; 511], graph: Graph, s: u16, m: u16, colour: Side) -> 
 
 // The step by a middle term, from s, which is A-colourable only, to t. "If it is not a vertex it becomes one": a shared term more. The state changes in
 // its place, since a function for each part would copy it on its way in and out.
-fn middle_step(mut st: State, s: u16, t: u16) -> Stepped
+fn middle_step(mut st: State, s: u16, t: u16) -> State
     requires { ⌜ ((run : OnRun st) × Apart (run .ts) (run .ls) (run .reached) s t) ⌝ }
     ensures { λ r. ⌜ ((run : OnRun st) → Apart (run .ts) (run .ls) (run .reached) s t → Outcome (run .ts) (run .ls) (middleFrom (run .ts) (run .ls) (run .reached) s t) r) ⌝ }
 {
@@ -158,10 +157,8 @@ fn middle_step(mut st: State, s: u16, t: u16) -> Stepped
     let forest = rooting::rooted(graph, &st.labels);
     let c = chosen(&st.colours, forest, of_s, of_t, arity as usize);
     if c.stuck {
-        return Stepped {
-            stuck: true,
-            state: st,
-        };
+        st.stuck = true;
+        return st;
     }
     let row = c.row;
     let rows = st.rows;
@@ -179,10 +176,8 @@ fn middle_step(mut st: State, s: u16, t: u16) -> Stepped
     let half = tied(&mut st.labels, graph, s, m, Side::A);
     let whole = tied(&mut st.labels, half, t, m, Side::B);
     st.graph = whole;
-    Stepped {
-        stuck: false,
-        state: st,
-    }
+    st.stuck = false;
+    st
 }
 
 // The colour of a derived edge, or that it has none.
@@ -205,7 +200,7 @@ pub fn edge_colour(of_s: u8, of_t: u8) -> Colouring
 }
 
 // The step by a middle term, from the end that is A-colourable.
-pub fn by_middle(st: State, s: u16, t: u16) -> Stepped
+pub fn by_middle(st: State, s: u16, t: u16) -> State
     requires { ⌜ ((run : OnRun st) × T (derivable (run .ts) (run .ls) (run .reached) (pair s t)) × (colouring (getD (st .colours) s 0) (getD (st .colours) t 0) ≡ Colouring.Middle)) ⌝ }
     ensures { λ r. ⌜ ((run : OnRun st) → T (derivable (run .ts) (run .ls) (run .reached) (pair s t)) → Outcome (run .ts) (run .ls) (derivedStep (run .ts) (run .ls) (run .reached) (pair s t)) r) ⌝ }
 {

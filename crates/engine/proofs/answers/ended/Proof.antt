@@ -12,7 +12,7 @@ use Rattle.running.specs.Shown.{Shows}
 use Rattle.closure.specs.OwnRun.{ownRun}
 use Rattle.running.specs.Opening.{ReadFrom}
 use Rattle.running.specs.Stepping.{Ends as RunEnds}
-use Rattle.running.specs.declared.state.Stepped.{Stepped}
+use Rattle.running.specs.declared.state.State.{State as Arrays}
 use Rattle.demands.specs.Call.{consistent, verdict, ended}
 use Rattle.engine.specs.Ending.{Ends, termsIn, literalsIn}
 use Rattle.running.proofs.Beginning.{lent, terms-fit}
@@ -22,16 +22,16 @@ use borrow.Author.Needs.{needs}
 use Rattle.engine.proofs.answers.ended.Statement.{statement}
 use Rattle.engine.proofs.answers.ended.Tie as tie
 
-module _ (t : Tables) (end : Stepped) (from : ReadFrom t) (outcome : RunEnds (termsIn from) (literalsIn from) end) where
+module _ (t : Tables) (end : Arrays) (from : ReadFrom t) (outcome : RunEnds (termsIn from) (literalsIn from) end) where
   -- a stuck run has no last state
   stuck-none : end .stuck ≡ true → ownRun (termsIn from) (literalsIn from) ≡ none
   stuck-none e = ⊎-elim (λ o. o .1) (λ o. let z : true ≡ false = sym e ∙ o .0 in absurd (let y : _≡_ {A = ℕ} 0 1 = cc in omega arith)) outcome
 
   -- any other has, and the arrays show it
-  last-shown : end .stuck ≡ false → (after : State) × (ownRun (termsIn from) (literalsIn from) ≡ some after) × Shows (termsIn from) (literalsIn from) after (end .state)
+  last-shown : end .stuck ≡ false → (after : State) × (ownRun (termsIn from) (literalsIn from) ≡ some after) × Shows (termsIn from) (literalsIn from) after end
   last-shown e = ⊎-elim (λ o. let z : true ≡ false = sym (o .0) ∙ e in absurd (let y : _≡_ {A = ℕ} 0 1 = cc in omega arith)) (λ o. o .1) outcome
 
-  abbrev ends-of : end .stuck ≡ false → Ends t (end .state)
+  abbrev ends-of : end .stuck ≡ false → Ends t end
   ends-of e = record { from = from; state = last-shown e .0; last = last-shown e .1; shows = last-shown e .2 }
 
 returns : tie.Need-returns
@@ -40,7 +40,7 @@ returns c from outcome e = sym (ap (ended _ (termsIn from) (literalsIn from)) (s
 
 critical-requires : tie.Need-critical-requires
 critical-requires c κs =
-    let from = lent (c .before .before .before .before .before .before .before .before .pre .0) _ (c .before .before .before .before .before .before .before .before .pre .2) in
+    let from = lent (c .before .before .before .before .before .before .before .pre .0) _ (c .before .before .before .before .before .before .before .pre .2) in
     λ i h. let small = sides-small _ _ (from .sound) i h in (omega (arith, small .0), omega (arith, small .1))
 
 enum-known-found : tie.Need-enum-known-found
@@ -48,14 +48,14 @@ enum-known-found c = search needs
 
 inconsistent-requires : tie.Need-inconsistent-requires
 inconsistent-requires c κs =
-    let w = ends-of _ (c .before .before .before .before .before .before .before .before .before .before .before .before .before .before .args .end) (c .before .before .before .before .before .before .before .before .before .before .before .before .before .before .pre .0) (c .before .before .before .before .before .before .before .before .before .before .before .before .before .before .pre .1) (c .before .before .before .before .before .before .before .before .before .if1 .left) in
-    (record { ends = w; found = sym (c .before .before .before .before .before .critical .ensures ∙ met-first _ _ w _ (c .before .before .before .before .before .before .before .before .before .before .before .before .before .before .pre .2)) ∙ ap foundOf (c .before .before .before .found .given .1) }, c .before .before .before .before .before .before .before .before .before .before .before .before .before .before .pre .2)
+    let w = ends-of _ (c .before .before .before .before .before .before .before .before .before .before .before .before .before .args .t2) (c .before .before .before .before .before .before .before .before .before .before .before .before .before .pre .0) (c .before .before .before .before .before .before .before .before .before .before .before .before .before .pre .1) (c .before .before .before .before .before .before .before .before .if1 .left) in
+    (record { ends = w; found = sym (c .before .before .before .before .before .critical .ensures ∙ met-first _ _ w _ (c .before .before .before .before .before .before .before .before .before .before .before .before .before .pre .2)) ∙ ap foundOf (c .before .before .before .found .given .1) }, c .before .before .before .before .before .before .before .before .before .before .before .before .before .pre .2)
 
 enum-told : tie.Need-enum-told
 enum-told c = search needs
 
 consistent-requires : tie.Need-consistent-requires
-consistent-requires c κs = terms-fit _ (c .before .before .before .before .before .before .before .before .before .before .before .before .before .before .before .before .pre .0)
+consistent-requires c κs = terms-fit _ (c .before .before .before .before .before .before .before .before .before .before .before .before .before .before .before .pre .0)
 
 same-length : tie.Need-same-length
 same-length c = search needs
@@ -66,7 +66,7 @@ same-length-2 c = search needs
 returns-2 : tie.Need-returns-2
 unfolding ended verdict
 returns-2 c from outcome e =
-    let w = ends-of _ (c .before .before .before .before .before .before .before .before .before .before .before .before .before .before .before .before .before .before .before .args .end) from outcome (c .before .before .before .before .before .before .before .before .before .before .before .before .before .before .if1 .left) in
+    let w = ends-of _ (c .before .before .before .before .before .before .before .before .before .before .before .before .before .before .before .before .before .before .args .t2) from outcome (c .before .before .before .before .before .before .before .before .before .before .before .before .before .if1 .left) in
     let decided = sym (c .before .before .before .before .before .before .before .before .before .before .critical .ensures ∙ met-first _ _ w _ e) ∙ ap foundOf (c .before .before .before .before .before .before .before .before .found .given .1) in
     c .before .before .before .before .inconsistent .ensures (record { ends = w; found = decided }) e _ ∙
     sym (ap (verdict _ (termsIn from) (literalsIn from) (w .state)) decided) ∙
@@ -78,8 +78,8 @@ same-length-3 c = search needs
 returns-3 : tie.Need-returns-3
 unfolding ended verdict
 returns-3 c from outcome e =
-    let a = c .before .before .before .before .before .before .before .before .before .before .before .before .before .before .before .before .before .before .before .args in
-    let w = ends-of _ (a .end) from outcome (c .before .before .before .before .before .before .before .before .before .before .before .before .before .before .if1 .left) in
+    let a = c .before .before .before .before .before .before .before .before .before .before .before .before .before .before .before .before .before .before .args in
+    let w = ends-of _ (a .t2) from outcome (c .before .before .before .before .before .before .before .before .before .before .before .before .before .if1 .left) in
     let none-met = sym (c .before .before .before .before .before .before .before .before .before .before .critical .ensures ∙ met-first _ _ w _ e) ∙ ap foundOf (c .before .before .before .before .before .before .before .before .enum-told .given .1) in
     c .before .before .consistent .ensures (a .added .now) (a .clauses .now) ∙
     ap (consistent (record { partition = a .partition .now; added = a .added .now; clauses = a .clauses .now })) (classes-are _ _ w) ∙

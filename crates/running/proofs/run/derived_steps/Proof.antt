@@ -1,9 +1,8 @@
 -- `running::run::derived_steps` meets its contract. The invariant: the state is one of a run, and the turns left come to the same end. The measure is
 -- the turns left.
-use mathlib.Core.Bool.{false}
-use mathlib.Core.Logic.{inr, ⊎-elim}
+use mathlib.Core.Logic.{⊎-elim}
 use mathlib.Core.Option.{some}
-use mathlib.Core.Path.{_≡_, refl, sym, ap, subst, _∙_}
+use mathlib.Core.Path.{_≡_, sym, ap, subst, _∙_}
 use Prim.Native.Nat.{_-_, _<_}
 use native.Mathlib.Omega.{arith}
 use borrow.Author.Needs.{needs}
@@ -16,7 +15,7 @@ use Rattle.running.specs.Stepping.{OnRun}
 use Rattle.running.specs.declared.state.State.{State as Arrays}
 use Rattle.running.proofs.Showing.{shown-length}
 use Rattle.running.proofs.DerivedSteps.{plain-step}
-use Rattle.running.proofs.OwnTurns.{orderly, found-derivable, TurnsLeft, all-left, onward, no-turn-left, no-pair-left, turn-stuck, turn-taken}
+use Rattle.running.proofs.OwnTurns.{orderly, found-derivable, TurnsLeft, all-left, onward, no-turn-left, no-pair-left, turn-stuck, turn-shown, turn-taken}
 use Rattle.running.proofs.run.derived_steps.Statement.{statement}
 use Rattle.running.proofs.run.derived_steps.Tie as tie
 
@@ -43,7 +42,7 @@ enum-told c = search needs
 returns : tie.Need-returns Inv-loop μ-loop
 returns c run e =
     let w = c .before .before .before .before .before .before .before .before .before .before .loop .inv run e in
-    no-pair-left run _ _ _ w (c .before .before .before .before .before .before .before .before .before .loop-test .taken) (sym (c .before .before .first-pair .ensures (run .ts) (run .ls) (w .reached) (c .before .before .before .before .before .before .before .before .before .before .loop .st) (w .shows) e (run .checked .one-arity)) ∙ ap pairOf (c .enum-told .given .1)) _ refl refl
+    no-pair-left run _ _ _ w (c .before .before .before .before .before .before .before .before .before .loop-test .taken) (sym (c .before .before .first-pair .ensures (run .ts) (run .ls) (w .reached) (c .before .before .before .before .before .before .before .before .before .before .loop .st) (w .shows) e (run .checked .one-arity)) ∙ ap pairOf (c .enum-told .given .1))
 
 -- what is found is the first pair of the state
 is-first : (c : tie.After-found Inv-loop μ-loop) (run : OnRun (c .before .before .before .before .before .before .before .before .before .before .before .args .start)) (e : c .before .before .before .before .before .before .before .before .before .before .before .args .n ≡ length (run .ts)) → firstPair (run .ts) (run .ls) (c .before .before .before .before .before .before .before .before .before .before .loop .inv run e .reached) ≡ some (pair (c .found .given .0 .0) (c .found .given .0 .1 .0))
@@ -119,14 +118,13 @@ loop-again c run e =
     let more = c .before .before .before .before .before .before .before .before .before .before .before .before .before .before .loop-test .taken in
     ⊎-elim
     (λ v. subst (λ (s : Arrays). TurnsLeft run n s (turns - 1)) (sym (v .6))
-    (turn-taken run _ _ _ w more _ first (record { stuck = false; state = _ })
-    (inr (refl, (_, plain-step (onward run _ _ _ w) _ _ derive _ (sym (c .before .edge-colour .ensures) ∙ v .1 .given .1) .1, v .5 .ensures (run .ts) (run .ls) (w .reached) (c .before .before .before .before .before .before .before .before .before .before .before .before .before .before .before .loop .st) (w .shows)))) refl))
-    (λ v. subst (λ (s : Arrays). TurnsLeft run n s (turns - 1)) (sym (v .5))
+    (turn-shown run _ _ _ w more _ first _ _ (plain-step (onward run _ _ _ w) _ _ derive _ (sym (c .before .edge-colour .ensures) ∙ v .1 .given .1) .1) (v .5 .ensures (run .ts) (run .ls) (w .reached) (c .before .before .before .before .before .before .before .before .before .before .before .before .before .before .before .loop .st) (w .shows))))
+    (λ v. subst (λ (s : Arrays). TurnsLeft run n s (turns - 1)) (sym (v .4))
     (turn-taken run _ _ _ w more _ first _ (v .2 .ensures (onward run _ _ _ w) derive) (v .3 .left)))
     (c .match2 .came)
 
 returns-3 : tie.Need-returns-3 Inv-loop μ-loop
-returns-3 c run e = no-turn-left run _ _ _ (c .before .loop .inv run e) (c .loop-test .left) _ refl refl
+returns-3 c run e = no-turn-left run _ _ _ (c .before .loop .inv run e) (c .loop-test .left)
 
 pub derived-steps-spec : {M : Type 1} → statement M
 derived-steps-spec =

@@ -9,7 +9,7 @@ use Rattle.closure.specs.Steps.{placed}
 use Rattle.running.specs.Shown.{padded, Shows, regraphed}
 use Rattle.running.specs.Stepping.{Placing, OnRun, Apart}
 use Rattle.running.specs.declared.state.State.{State as Arrays}
-use Rattle.running.proofs.Showing.{shown-length}
+use Rattle.running.proofs.Showing.{shown-length, shows-halted}
 use Rattle.running.proofs.EqualVertex.{number-fits, number-room, placed-there, placed-new}
 use Rattle.running.proofs.OnRuns.{vertex-small, can-root, choosing, choice-found, terms, middle, placing, put-shown, not-both, middle-small, first-room, second-room, middle-outcome}
 use Rattle.running.proofs.step.middle_step.Statement.{statement}
@@ -128,7 +128,7 @@ returns-2 : tie.Need-returns-2
 returns-2 c run apart =
     let there = put (c .before .before .before .before) run apart in
     let half = c .before .before .tied .ensures (run .ts) (run .ls) _ (c .before .before .before .before .if2 .st) (there .0) in
-    middle-outcome run _ _ apart _ _ (there .0) (there .1) _ refl (c .tied2 .ensures (run .ts) (run .ls) _ (c .before .before .before .before .if2 .st) half)
+    middle-outcome run _ _ apart _ _ (there .0) (there .1) _ refl (shows-halted _ _ _ _ _ (c .tied2 .ensures (run .ts) (run .ls) _ (c .before .before .before .before .if2 .st) half))
 
 pub middle-step-spec : {M : Type 1} → statement M
 middle-step-spec =
