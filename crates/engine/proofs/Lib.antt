@@ -5,3 +5,4 @@ pub mod AddedRecords
 pub mod Answering
 pub mod ParentEnds
 pub mod LastState
+pub mod EndOfRun

@@ -45,10 +45,10 @@ pub record Decides (t : Tables) (s : Arrays) (d : ℕ) : Type 0 where
   pub ends : Ends t s
   pub found : critical (literalsIn (ends .from)) (ends .state .graph) ≡ some d
 
--- the arrays of a state that the clause layer is lent, and what else the state has
-abbrev pub lentOf : Arrays → Graph → List Row → List ℕ → List ℕ → List ℕ → ℕ → Arrays
-lentOf s graph rows labels arities colours terms =
-    record { terms = terms; symbols = s .symbols; arities = arities; rows = rows; colours = colours; vertices = s .vertices; graph = graph; labels = labels; stuck = s .stuck }
+-- the arrays of a state that are lent one by one, and what else the state has
+abbrev pub lentOf : Arrays → Graph → List Row → List ℕ → List ℕ → List ℕ → List ℕ → ℕ → Arrays
+lentOf s graph rows labels symbols arities colours terms =
+    record { terms = terms; symbols = symbols; arities = arities; rows = rows; colours = colours; vertices = s .vertices; graph = graph; labels = labels; stuck = s .stuck }
 
 -- the clause records of that disequality
 abbrev pub recordsFor : {t : Tables} {s : Arrays} {d : ℕ} → Decides t s d → List (List ℕ)

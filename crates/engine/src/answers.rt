@@ -1,27 +1,22 @@
-// From the run's last state to the answer: the verdict, then room, then the bytes.
+// The two verdicts: room, and then the bytes.
 
 use super::added;
 use super::classes;
 use super::summaries;
-use super::verdict;
 use demands::Answer;
-use running::state::State;
-use tables::Found;
+use graphs::graph::Graph;
+use running::Row;
 use tables::Tables;
 ghost use mathlib.Core.List.{List, map};
 ghost use mathlib.Core.Path.{_≡_};
 ghost use Prim.Native.Nat.{ℕ, _≤_};
-ghost use Rattle.tables.specs.LiteralTable.{literalsOf};
-ghost use Rattle.tables.specs.TermTable.{termsOf};
-ghost use Rattle.closure.specs.OwnRun.{ownRun};
-ghost use Rattle.running.specs.Opening.{ReadFrom};
-ghost use Rattle.running.specs.Stepping.{Ends as RunEnds};
+ghost use Rattle.running.specs.declared.state.State.{State as Arrays};
 ghost use Rattle.demands.specs.Buffers.{termBytes};
-ghost use Rattle.demands.specs.Call.{consistent as consistentBy, inconsistent as inconsistentBy, ended as endedBy};
-ghost use Rattle.engine.specs.Ending.{Decides, termsIn, literalsIn, recordsFor, classBytes};
+ghost use Rattle.demands.specs.Call.{consistent as consistentBy, inconsistent as inconsistentBy};
+ghost use Rattle.engine.specs.Ending.{Decides, lentOf, recordsFor, classBytes};
 
 // No disequality has its sides joined: the partition, where it has room.
-fn consistent(used: &[bool; 256], labels: &[u16; 511], n: usize, partition: &mut [u8]) -> Answer
+pub fn consistent(used: &[bool; 256], labels: &[u16; 511], n: usize, partition: &mut [u8]) -> Answer
     requires { ⌜ n ≤ 256 ⌝ }
     ensures { λ r. ⌜ ((added clauses : List ℕ) → record { answer = r; buffers = record { partition = now (partition .exit); added = added; clauses = clauses } } ≡ consistentBy (record { partition = now (partition .entry); added = added; clauses = clauses }) (classBytes (now (used .entry)) (now (labels .entry)) n)) ⌝ }
 {
@@ -35,19 +30,26 @@ fn consistent(used: &[bool; 256], labels: &[u16; 511], n: usize, partition: &mut
     Answer::Consistent
 }
 
-// The critical disequality is d: the added terms and the clause records, where both have room.
-fn inconsistent(
+// The critical disequality is d: the added terms and the clause records, where both have room. The last state is lent array by array, so that it is
+// not copied.
+pub fn inconsistent<'a>(
     t: Tables,
-    st: State,
+    graph: Graph,
+    rows: [Row; 511],
+    labels: &'a [u16; 511],
+    symbols: &'a [u16; 511],
+    arities: &'a [u8; 511],
+    colours: &'a [u8; 511],
+    terms: usize,
     d: usize,
     literals: &[u8],
     added: &mut [u8],
     clauses: &mut [u8],
 ) -> Answer
-    requires { ⌜ ((w : Decides t st d) × (w .ends .from .literals ≡ now literals)) ⌝ }
-    ensures { λ r. ⌜ ((w : Decides t st d) → w .ends .from .literals ≡ now (literals .entry) → (partition : List ℕ) → record { answer = r; buffers = record { partition = partition; added = now (added .exit); clauses = now (clauses .exit) } } ≡ inconsistentBy (record { partition = partition; added = now (added .entry); clauses = now (clauses .entry) }) d (map termBytes (w .ends .state .added)) (recordsFor w)) ⌝ }
+    requires { ⌜ ((s : Arrays) × (w : Decides t (lentOf s graph «rows» (now labels) (now symbols) (now arities) (now colours) terms) d) × (w .ends .from .literals ≡ now literals)) ⌝ }
+    ensures { λ r. ⌜ ((s : Arrays) (w : Decides t (lentOf s graph «rows» (now (labels .entry)) (now (symbols .entry)) (now (arities .entry)) (now (colours .entry)) terms) d) → w .ends .from .literals ≡ now (literals .entry) → (partition : List ℕ) → record { answer = r; buffers = record { partition = partition; added = now (added .exit); clauses = now (clauses .exit) } } ≡ inconsistentBy (record { partition = partition; added = now (added .entry); clauses = now (clauses .entry) }) d (map termBytes (w .ends .state .added)) (recordsFor w)) ⌝ }
 {
-    let count = st.terms - t.terms;
+    let count = terms - t.terms;
     if added.len() < 16 * count {
         return Answer::Refused {
             number: 7,
@@ -55,15 +57,13 @@ fn inconsistent(
         };
     }
     let room = clauses.len() / 8;
-    let graph = st.graph;
-    let rows = st.rows;
     let records = summaries::clause_records(
         graph,
         rows,
-        &st.labels,
-        &st.arities,
-        &st.colours,
-        st.terms,
+        labels,
+        arities,
+        colours,
+        terms,
         d,
         literals,
         clauses,
@@ -74,35 +74,10 @@ fn inconsistent(
             place: 2,
         };
     }
-    added::write_added(&st.symbols, &st.arities, rows, t.terms, count, added);
+    added::write_added(symbols, arities, rows, t.terms, count, added);
     Answer::Inconsistent {
         disequality: d,
         added: count,
         records,
-    }
-}
-
-// Row 8 stands before row 7. "The critical disequality is the lowest record of kind 2 whose sides are joined when no step is left. None: consistent."
-pub fn ended(
-    t: Tables,
-    end: State,
-    literals: &[u8],
-    partition: &mut [u8],
-    added: &mut [u8],
-    clauses: &mut [u8],
-) -> Answer
-    requires { ⌜ ((from : ReadFrom t) × RunEnds (termsOf (from .terms)) (literalsOf (from .literals)) end × (from .literals ≡ now literals)) ⌝ }
-    ensures { λ r. ⌜ ((from : ReadFrom t) → RunEnds (termsOf (from .terms)) (literalsOf (from .literals)) end → from .literals ≡ now (literals .entry) → record { answer = r; buffers = record { partition = now (partition .exit); added = now (added .exit); clauses = now (clauses .exit) } } ≡ endedBy (record { partition = now (partition .entry); added = now (added .entry); clauses = now (clauses .entry) }) (termsIn from) (literalsIn from) (ownRun (termsIn from) (literalsIn from))) ⌝ }
-{
-    if end.stuck {
-        return Answer::Refused {
-            number: 8,
-            place: 0,
-        };
-    }
-    let found = verdict::critical(literals, &end.labels);
-    match found {
-        Found::At(d) => inconsistent(t, end, d, literals, added, clauses),
-        Found::Nothing => consistent(&t.used, &end.labels, t.terms, partition),
     }
 }

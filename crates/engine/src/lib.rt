@@ -12,11 +12,13 @@ use demands::Answer;
 use demands::Numbers;
 use running::run;
 use tables::Check;
+use tables::Found;
 ghost use mathlib.Core.Path.{_≡_};
 ghost use Rattle.demands.specs.Answers.{numbersOf};
 ghost use Rattle.demands.specs.Call.{judged};
 
-// Any two byte strings, judged: the answer, and every byte of the lent buffers, are those of the definition.
+// Any two byte strings, judged: the answer, and every byte of the lent buffers, are those of the definition. Row 8 stands before row 7. "The critical
+// disequality is the lowest record of kind 2 whose sides are joined when no step is left. None: consistent."
 pub fn split(
     terms: &[u8],
     literals: &[u8],
@@ -33,7 +35,32 @@ pub fn split(
     };
     let rows = reading::arguments::rows(terms);
     let end = run::own_run(t, rows, literals);
-    answers::ended(t, end, literals, partition, added, clauses)
+    if end.stuck {
+        return Answer::Refused {
+            number: 8,
+            place: 0,
+        };
+    }
+    let found = verdict::critical(literals, &end.labels);
+    let Found::At(d) = found else {
+        return answers::consistent(&t.used, &end.labels, t.terms, partition);
+    };
+    let graph = end.graph;
+    let rows = end.rows;
+    answers::inconsistent(
+        t,
+        graph,
+        rows,
+        &end.labels,
+        &end.symbols,
+        &end.arities,
+        &end.colours,
+        end.terms,
+        d,
+        literals,
+        added,
+        clauses,
+    )
 }
 
 // The numbers of an answer.

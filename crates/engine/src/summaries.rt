@@ -6,7 +6,9 @@ use graphs::rooting;
 use reading::literal;
 use running::Row;
 use summing::summary;
+ghost use mathlib.Core.List.{List};
 ghost use mathlib.Core.Path.{_≡_};
+ghost use Prim.Native.Nat.{ℕ};
 ghost use Rattle.tables.specs.declared.Tables.{Tables as Read};
 ghost use Rattle.running.specs.declared.state.State.{State as Arrays};
 ghost use Rattle.engine.specs.Ending.{Decides, lentOf, recordsFor, Written};
@@ -23,8 +25,8 @@ pub fn clause_records<'a>(
     literals: &[u8],
     out: &mut [u8],
 ) -> usize
-    requires { ⌜ ((t : Read) × (s : Arrays) × (w : Decides t (lentOf s graph «rows» (now labels) (now arities) (now colours) terms) d) × (w .ends .from .literals ≡ now literals)) ⌝ }
-    ensures { λ r. ⌜ ((t : Read) (s : Arrays) (w : Decides t (lentOf s graph «rows» (now (labels .entry)) (now (arities .entry)) (now (colours .entry)) terms) d) → w .ends .from .literals ≡ now (literals .entry) → Written (recordsFor w) (now (out .entry)) r (now (out .exit))) ⌝ }
+    requires { ⌜ ((t : Read) × (s : Arrays) × (symbols : List ℕ) × (w : Decides t (lentOf s graph «rows» (now labels) symbols (now arities) (now colours) terms) d) × (w .ends .from .literals ≡ now literals)) ⌝ }
+    ensures { λ r. ⌜ ((t : Read) (s : Arrays) (symbols : List ℕ) (w : Decides t (lentOf s graph «rows» (now (labels .entry)) symbols (now (arities .entry)) (now (colours .entry)) terms) d) → w .ends .from .literals ≡ now (literals .entry) → Written (recordsFor w) (now (out .entry)) r (now (out .exit))) ⌝ }
 {
     let count = graph.count;
     let root = rooting::rooted(graph, labels);

@@ -8,16 +8,21 @@ use native.Mathlib.Omega.{arith}
 use lib.Dec.{eqb}
 use types.Run.{OneOf}
 use denote.Enum.Declared.{tagOf}
-use Rattle.tables.specs.Checks.{checked, numberOf}
+use Rattle.tables.specs.Checks.{checked, numberOf, foundOf}
 use Rattle.tables.specs.Read.{soundTables, refusedTables, tablesRead}
 use Rattle.tables.specs.declared.Check.{Check}
 use Rattle.tables.specs.declared.Check.the-variants.{Sound}
 use Rattle.tables.specs.declared.Tables.{Tables}
 use Rattle.tables.proofs.Check.{the-type}
 use Rattle.running.specs.Opening.{ReadFrom}
+use Rattle.running.specs.Stepping.{Ends}
+use Rattle.running.proofs.Beginning.{terms-fit}
+use Rattle.running.proofs.BasicSteps.{sides-small}
 use Rattle.demands.specs.declared.Answer.{Answer}
 use Rattle.demands.specs.Call.{Buffers}
 use Rattle.demands.proofs.Ways.{judged-refused, judged-ended}
+use Rattle.engine.specs.Ending.{Decides, termsIn, literalsIn}
+use Rattle.engine.proofs.EndOfRun.{ends-of, ended-stuck, found-critical, ended-inconsistent, ended-consistent}
 use borrow.Author.Needs.{needs}
 use Rattle.engine.proofs.split.Statement.{statement}
 use Rattle.engine.proofs.split.Tie as tie
@@ -66,13 +71,48 @@ rows-requires c κs = search needs
 own-run-requires : tie.Need-own-run-requires
 own-run-requires c κs = (from-read _ _ _ (c .before .before .before .read .ensures) (c .before .enum-told .given .1), c .rows .ensures, refl)
 
-ended-requires : tie.Need-ended-requires
-ended-requires c κs =
-    let from = from-read _ _ _ (c .before .before .before .before .before .before .before .read .ensures) (c .before .before .before .before .before .enum-told .given .1) in
-    (from, c .before .before .before .own-run .ensures from (c .before .before .before .before .rows .ensures) refl, refl)
+-- the tables that the run was over
+abbrev from-here : (c : tie.After-own-run) → ReadFrom (c .before .before .before .before .read .result)
+from-here c = from-read _ _ _ (c .before .before .before .before .read .ensures) (c .before .before .enum-told .given .1)
+
+-- and how it ended
+abbrev ends-here : (c : tie.After-own-run) → Ends (termsIn (from-here c)) (literalsIn (from-here c)) (c .own-run .result)
+ends-here c = c .own-run .ensures (from-here c) (c .before .rows .ensures) refl
+
+returns-2 : tie.Need-returns-2
+returns-2 c =
+    ended-stuck _ _ (from-here (c .before)) (ends-here (c .before)) _ (c .if1 .taken) ∙ sym (judged-ended _ _ _ (from-here (c .before) .sound))
+
+critical-requires : tie.Need-critical-requires
+critical-requires c κs = λ i h. let small = sides-small _ _ (from-here (c .before .before .before) .sound) i h in (omega (arith, small .0), omega (arith, small .1))
+
+enum-known-found : tie.Need-enum-known-found
+enum-known-found c = search needs
+
+enum-told-2 : tie.Need-enum-told-2
+enum-told-2 c = search needs
+
+consistent-requires : tie.Need-consistent-requires
+consistent-requires c κs = terms-fit _ (from-here (c .before .before .before .before .before .before .before .before .before .before .before))
 
 same-length : tie.Need-same-length
 same-length c = search needs
+
+returns-3 : tie.Need-returns-3
+returns-3 c =
+    let a = c .before .before .before .before .before .before .before .before .before .before .before .before .before .before .before .before .before .before .before .before .before .before .before .before .args in
+    let o = c .before .before .before .before .before .before .before .before .before .before .before .before .before .before in
+    ended-consistent _ _ (from-here o) (ends-here o) (c .before .before .before .before .before .before .before .before .before .before .before .before .before .if1 .left) (c .before .before .before .before .before .before .before .before .before .before .critical .result) (c .before .before .before .before .before .before .before .before .before .before .critical .ensures) _ (ap foundOf (c .before .before .before .before .before .before .before .before .enum-told2 .given .1)) _ (c .before .before .consistent .ensures (a .added .now) (a .clauses .now)) ∙
+    sym (judged-ended _ _ _ (from-here o .sound))
+
+-- the critical disequality is found
+abbrev decided : (c : tie.After-found) → Decides (c .before .before .before .before .before .before .before .before .before .before .read .result) (c .before .before .before .before .before .before .own-run .result) (c .found .given .0 .0)
+decided c =
+    let o = c .before .before .before .before .before .before in
+    record { ends = ends-of _ _ (from-here o) (ends-here o) (c .before .before .before .before .before .if1 .left); found = found-critical _ _ (from-here o) (ends-here o) (c .before .before .before .before .before .if1 .left) (c .before .before .critical .result) (c .before .before .critical .ensures) ∙ ap foundOf (c .found .given .1) }
+
+inconsistent-requires : tie.Need-inconsistent-requires
+inconsistent-requires c κs = (c .before .before .before .before .before .before .before .before .before .before .before .before .before .before .before .before .own-run .result, decided (c .before .before .before .before .before .before .before .before .before .before), refl)
 
 same-length-2 : tie.Need-same-length-2
 same-length-2 c = search needs
@@ -80,10 +120,11 @@ same-length-2 c = search needs
 same-length-3 : tie.Need-same-length-3
 same-length-3 c = search needs
 
-returns-2 : tie.Need-returns-2
-returns-2 c =
-    let from = from-read _ _ _ (c .before .before .before .before .before .before .before .before .before .before .before .before .before .before .read .ensures) (c .before .before .before .before .before .before .before .before .before .before .before .before .enum-told .given .1) in
-    c .before .before .before .before .before .before .ended .ensures from (c .before .before .before .before .before .before .before .before .before .before .own-run .ensures from (c .before .before .before .before .before .before .before .before .before .before .before .rows .ensures) refl) refl ∙ sym (judged-ended _ _ _ (from .sound))
+returns-4 : tie.Need-returns-4
+returns-4 c =
+    let o = c .before .before .before .before .before .before .before .before .before .before .before .before .before .before .before .before .before .before .before .before .before in
+    ended-inconsistent _ _ (from-here o) (ends-here o) (c .before .before .before .before .before .before .before .before .before .before .before .before .before .before .before .before .before .before .before .before .if1 .left) (c .before .before .before .before .before .before .before .before .before .before .before .before .before .before .before .before .before .critical .result) (c .before .before .before .before .before .before .before .before .before .before .before .before .before .before .before .before .before .critical .ensures) _ _ (ap foundOf (c .before .before .before .before .before .before .before .before .before .before .before .before .before .before .before .found .given .1)) _ (c .before .before .before .before .inconsistent .ensures (o .own-run .result) (decided (c .before .before .before .before .before .before .before .before .before .before .before .before .before .before .before)) refl _) ∙
+    sym (judged-ended _ _ _ (from-here o .sound))
 
 pub split-spec : {M : Type 1} → statement M
 split-spec =
@@ -95,8 +136,14 @@ split-spec =
     returns
     rows-requires
     own-run-requires
-    ended-requires
+    returns-2
+    critical-requires
+    enum-known-found
+    enum-told-2
+    consistent-requires
     same-length
+    returns-3
+    inconsistent-requires
     same-length-2
     same-length-3
-    returns-2)
+    returns-4)

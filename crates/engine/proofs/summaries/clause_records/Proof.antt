@@ -12,40 +12,40 @@ use Rattle.engine.proofs.summaries.clause_records.Statement.{statement}
 use Rattle.engine.proofs.summaries.clause_records.Tie as tie
 
 rooted-requires : tie.Need-rooted-requires
-rooted-requires c κs = can-root (on-run (c .before .before .pre .2 .ends))
+rooted-requires c κs = can-root (on-run (c .before .before .pre .3 .ends))
 
 laid-out-requires : tie.Need-laid-out-requires
-laid-out-requires c κs = can-root (on-run (c .before .before .before .pre .2 .ends)) .0
+laid-out-requires c κs = can-root (on-run (c .before .before .before .pre .3 .ends)) .0
 
 places-requires : tie.Need-places-requires
 places-requires c κs =
-    let w = c .before .before .before .before .before .before .before .pre .2 .ends in
+    let w = c .before .before .before .before .before .before .before .pre .3 .ends in
     (can-root (on-run w) .0, ends-in w (c .before .before .before .laid-out .result) (c .before .before .before .laid-out .ensures) .0)
 
 lay-parents-requires : tie.Need-lay-parents-requires
 lay-parents-requires c κs =
-    let w = c .before .before .before .before .before .before .before .before .before .before .before .before .pre .2 .ends in
+    let w = c .before .before .before .before .before .before .before .before .before .before .before .before .pre .3 .ends in
     let e = ends-in w (c .before .before .before .before .before .before .before .before .laid-out .result) (c .before .before .before .before .before .before .before .before .laid-out .ensures) in
     (can-root (on-run w) .0, e .0, e .1, length-replicate {A = ℕ} 4080 0)
 
 read-at-requires : tie.Need-read-at-requires
-read-at-requires c κs = omega (arith, decided-within _ _ _ (c .before .before .before .before .before .before .before .before .before .before .before .before .before .pre .2) _ (c .before .before .before .before .before .before .before .before .before .before .before .before .before .pre .3))
+read-at-requires c κs = omega (arith, decided-within _ _ _ (c .before .before .before .before .before .before .before .before .before .before .before .before .before .pre .3) _ (c .before .before .before .before .before .before .before .before .before .before .before .before .before .pre .4))
 
 cast-write : tie.Need-cast-write
-cast-write c = omega (arith, all-fit _ _ (c .before .before .before .before .before .before .before .before .before .before .before .before .before .before .before .before .before .before .before .before .before .before .pre .2 .ends))
+cast-write c = omega (arith, all-fit _ _ (c .before .before .before .before .before .before .before .before .before .before .before .before .before .before .before .before .before .before .before .before .before .before .pre .3 .ends))
 
 write-requires : tie.Need-write-requires
 write-requires c κs =
-    let w = c .before .before .before .before .before .before .before .before .before .before .before .before .before .before .before .before .before .before .before .before .before .before .before .before .pre .2 in
+    let w = c .before .before .before .before .before .before .before .before .before .before .before .before .before .before .before .before .before .before .before .before .before .before .before .before .pre .3 in
     let ts = termsIn (w .ends .from) in
     let drawn = drawn-of (w .ends) _ _ _ _ _ (c .before .before .before .before .before .before .before .before .before .before .before .before .before .before .before .before .before .before .before .before .laid-out .result) (c .before .before .before .before .before .before .before .before .before .before .before .before .before .before .before .before .before .before .before .before .before .rooted .ensures) (c .before .before .before .before .before .before .before .before .before .before .before .before .before .before .before .before .before .before .before .before .laid-out .ensures) (c .before .before .before .before .before .before .before .before .before .before .before .before .before .before .before .before .places .ensures) (c .before .before .before .before .before .before .before .before .before .before .before .lay-parents .ensures) in
-    ((ts, literalsIn (w .ends .from), tableOf ts (w .ends .state), w .ends .state .graph, asking-of _ _ _ w _ (c .before .before .before .before .before .before .before .before .before .before .before .before .before .before .before .before .before .before .before .before .before .before .before .before .pre .3) (c .before .before .before .before .before .before .before .before .before .before .read-at .result) (c .before .before .before .before .before .before .before .before .before .before .read-at .ensures) _ drawn), all-fit _ _ (w .ends))
+    ((ts, literalsIn (w .ends .from), tableOf ts (w .ends .state), w .ends .state .graph, asking-of _ _ _ w _ (c .before .before .before .before .before .before .before .before .before .before .before .before .before .before .before .before .before .before .before .before .before .before .before .before .pre .4) (c .before .before .before .before .before .before .before .before .before .before .read-at .result) (c .before .before .before .before .before .before .before .before .before .before .read-at .ensures) _ drawn), all-fit _ _ (w .ends))
 
 same-length : tie.Need-same-length
 same-length c = search needs
 
 returns : tie.Need-returns
-returns c t s w e =
+returns c t s symbols w e =
     let f = c .before .before .before .before .before .before .before .before .before .before .before .before .before .read-at .result in
     let read = c .before .before .before .before .before .before .before .before .before .before .before .before .before .read-at .ensures in
     let drawn = drawn-of (w .ends) _ _ _ _ _ (c .before .before .before .before .before .before .before .before .before .before .before .before .before .before .before .before .before .before .before .before .before .before .before .laid-out .result) (c .before .before .before .before .before .before .before .before .before .before .before .before .before .before .before .before .before .before .before .before .before .before .before .before .rooted .ensures) (c .before .before .before .before .before .before .before .before .before .before .before .before .before .before .before .before .before .before .before .before .before .before .before .laid-out .ensures) (c .before .before .before .before .before .before .before .before .before .before .before .before .before .before .before .before .before .before .before .places .ensures) (c .before .before .before .before .before .before .before .before .before .before .before .before .before .before .lay-parents .ensures) in
