@@ -1,5 +1,4 @@
 // Marks along a stretch of a path: which factors' ends are read, and which edges' parent paths.
-use graphs::paths::Trail;
 ghost use mathlib.Core.Path.{_≡_};
 ghost use Prim.Native.Nat.{_+_, _*_, _≤_, _<_};
 ghost use lib.ListN.{length};
@@ -136,39 +135,28 @@ pub fn want_along<'a>(
 }
 
 // The stretches before and after the middle one of a path, their own factors where those of B are read.
-pub fn want_outer(
+pub fn want_outer<'a>(
     inb: &[bool; 510],
-    t: Trail,
+    stops: &'a [u16; 511],
+    edges: &'a [u16; 511],
     lo: usize,
     hi: usize,
+    hops: usize,
     b: bool,
     pairs: &mut [bool],
     rows: &mut [bool; 511],
     inside: &mut [bool; 510],
     under: &mut [bool; 510],
 )
-    requires { ⌜ Within (t .stops) (t .edges) 0 (t .hops) × (lo ≤ hi) × (hi ≤ t .hops) ⌝ }
-    requires { ⌜ RowsOf (length (now pairs)) (t .stops) (t .hops) × InOrder (now rows) (now inside) (now under) ⌝ }
-    ensures { λ _. ⌜ OuterWanted (now (inb .entry)) (t .stops) (t .edges) lo hi (t .hops) b (now (pairs .entry)) (now (rows .entry)) (now (inside .entry)) (now (under .entry)) (now (pairs .exit)) (now (rows .exit)) (now (inside .exit)) (now (under .exit)) ⌝ }
+    requires { ⌜ Within (now stops) (now edges) 0 hops × (lo ≤ hi) × (hi ≤ hops) ⌝ }
+    requires { ⌜ RowsOf (length (now pairs)) (now stops) hops × InOrder (now rows) (now inside) (now under) ⌝ }
+    ensures { λ _. ⌜ OuterWanted (now (inb .entry)) (now (stops .entry)) (now (edges .entry)) lo hi hops b (now (pairs .entry)) (now (rows .entry)) (now (inside .entry)) (now (under .entry)) (now (pairs .exit)) (now (rows .exit)) (now (inside .exit)) (now (under .exit)) ⌝ }
 {
-    let hops = t.hops;
+    want_along(inb, stops, edges, 0, lo, b, b, pairs, rows, inside, under);
     want_along(
         inb,
-        &t.stops,
-        &t.edges,
-        0,
-        lo,
-        b,
-        b,
-        pairs,
-        rows,
-        inside,
-        under,
-    );
-    want_along(
-        inb,
-        &t.stops,
-        &t.edges,
+        stops,
+        edges,
         hi,
         hops,
         b,

@@ -1,6 +1,5 @@
 // The last clause of a disequality in A: the outer premises imply not [middle].
 use super::writing;
-use graphs::paths::Trail;
 use marking::marks::want_outer;
 use marking::settling::settle;
 ghost use mathlib.Core.Path.{_≡_};
@@ -31,7 +30,7 @@ fn put_last(stops: &[u16; 511], lo: usize, hi: usize, out: &mut [u8], at: usize)
 }
 
 // The last clause of a disequality in A: the premises of the outer stretches imply that the middle one's ends differ.
-pub fn last_out<'a>(
+pub fn last_out<'a, 'b>(
     toward: &'a [u16; 511],
     by: &'a [u16; 511],
     rank: &'a [u16; 511],
@@ -40,7 +39,9 @@ pub fn last_out<'a>(
     parents: &'a [u16; 4080],
     count: usize,
     vertices: u16,
-    t: Trail,
+    stops: &'b [u16; 511],
+    edges: &'b [u16; 511],
+    hops: usize,
     lo: usize,
     hi: usize,
     found: &mut [bool],
@@ -48,14 +49,26 @@ pub fn last_out<'a>(
     at: usize,
 ) -> usize
     requires { ⌜ DrawnSome (drawing (now toward) (now by) (now rank) (now inb) (now places) (now parents) count) (length (now found)) ⌝ }
-    requires { ⌜ Within (t .stops) (t .edges) 0 (t .hops) × (lo ≤ hi) × (hi ≤ t .hops) × (vertices ≤ 511) × (at + 261122 < 2 ^ 60) ⌝ }
-    requires { ⌜ RowsOf (length (now found)) (t .stops) (t .hops) × Blank vertices (now found) ⌝ }
-    ensures { λ r. ⌜ LastPut (drawing (now (toward .entry)) (now (by .entry)) (now (rank .entry)) (now (inb .entry)) (now (places .entry)) (now (parents .entry)) count) vertices (t .stops) (t .edges) lo hi (t .hops) at (now (found .entry)) (now (out .entry)) r (now (found .exit)) (now (out .exit)) ⌝ }
+    requires { ⌜ Within (now stops) (now edges) 0 hops × (lo ≤ hi) × (hi ≤ hops) × (vertices ≤ 511) × (at + 261122 < 2 ^ 60) ⌝ }
+    requires { ⌜ RowsOf (length (now found)) (now stops) hops × Blank vertices (now found) ⌝ }
+    ensures { λ r. ⌜ LastPut (drawing (now (toward .entry)) (now (by .entry)) (now (rank .entry)) (now (inb .entry)) (now (places .entry)) (now (parents .entry)) count) vertices (now (stops .entry)) (now (edges .entry)) lo hi hops at (now (found .entry)) (now (out .entry)) r (now (found .exit)) (now (out .exit)) ⌝ }
 {
     let rows = &mut [false; 511];
     let inside = &mut [false; 510];
     let under = &mut [false; 510];
-    want_outer(inb, t, lo, hi, true, found, rows, inside, under);
+    want_outer(
+        inb,
+        stops,
+        edges,
+        lo,
+        hi,
+        hops,
+        true,
+        found,
+        rows,
+        inside,
+        under,
+    );
     settle(
         toward,
         by,
@@ -71,6 +84,6 @@ pub fn last_out<'a>(
         under,
     );
     let n = writing::premises_out(found, rows, vertices, out, at);
-    put_last(&t.stops, lo, hi, out, n);
+    put_last(stops, lo, hi, out, n);
     n + 1
 }

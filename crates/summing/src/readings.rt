@@ -1,7 +1,6 @@
 // The two readings of a disequality: which equalities its clauses conclude, and their records.
 use super::clause::clauses_out;
 use super::last::last_out;
-use graphs::paths::Trail;
 use marking::marks::want_along;
 use marking::marks::want_outer;
 use marking::settling::settle;
@@ -13,7 +12,7 @@ ghost use Rattle.marking.specs.Drawn.{drawing, DrawnSome};
 ghost use Rattle.summing.specs.Written.{Clear, Blank, ReadableSome, Concluding, ReadingPut};
 
 // Marks the pairs that the clauses of a disequality conclude: what its middle stretch reaches, and what its outer ones reach without their own factors.
-pub fn conclude<'a>(
+pub fn conclude<'a, 'b>(
     toward: &'a [u16; 511],
     by: &'a [u16; 511],
     rank: &'a [u16; 511],
@@ -21,23 +20,25 @@ pub fn conclude<'a>(
     places: &'a [u8; 510],
     parents: &'a [u16; 4080],
     count: usize,
-    t: Trail,
+    stops: &'b [u16; 511],
+    edges: &'b [u16; 511],
+    hops: usize,
     lo: usize,
     hi: usize,
     pairs: &mut [bool],
     rows: &mut [bool; 511],
 )
     requires { ⌜ DrawnSome (drawing (now toward) (now by) (now rank) (now inb) (now places) (now parents) count) (length (now pairs)) ⌝ }
-    requires { ⌜ Within (t .stops) (t .edges) 0 (t .hops) × (lo ≤ hi) × (hi ≤ t .hops) ⌝ }
-    requires { ⌜ RowsOf (length (now pairs)) (t .stops) (t .hops) × Clear (now pairs) × (length (now rows) ≡ 511) ⌝ }
-    ensures { λ _. ⌜ (length (now (pairs .exit)) ≡ length (now (pairs .entry))) × Concluding (drawing (now (toward .entry)) (now (by .entry)) (now (rank .entry)) (now (inb .entry)) (now (places .entry)) (now (parents .entry)) count) (t .stops) (t .edges) lo hi (t .hops) (now (pairs .exit)) (now (rows .exit)) ⌝ }
+    requires { ⌜ Within (now stops) (now edges) 0 hops × (lo ≤ hi) × (hi ≤ hops) ⌝ }
+    requires { ⌜ RowsOf (length (now pairs)) (now stops) hops × Clear (now pairs) × (length (now rows) ≡ 511) ⌝ }
+    ensures { λ _. ⌜ (length (now (pairs .exit)) ≡ length (now (pairs .entry))) × Concluding (drawing (now (toward .entry)) (now (by .entry)) (now (rank .entry)) (now (inb .entry)) (now (places .entry)) (now (parents .entry)) count) (now (stops .entry)) (now (edges .entry)) lo hi hops (now (pairs .exit)) (now (rows .exit)) ⌝ }
 {
     let inside = &mut [false; 510];
     let under = &mut [false; 510];
     want_along(
         inb,
-        &t.stops,
-        &t.edges,
+        stops,
+        edges,
         lo,
         hi,
         false,
@@ -47,7 +48,19 @@ pub fn conclude<'a>(
         inside,
         under,
     );
-    want_outer(inb, t, lo, hi, false, pairs, rows, inside, under);
+    want_outer(
+        inb,
+        stops,
+        edges,
+        lo,
+        hi,
+        hops,
+        false,
+        pairs,
+        rows,
+        inside,
+        under,
+    );
     settle(
         toward,
         by,
@@ -66,7 +79,7 @@ pub fn conclude<'a>(
 
 // The records of a disequality: "Disequality in B: the path clauses of the path between its sides." In A: those of the middle stretch and of the outer
 // premises, and a last clause.
-pub fn records_out<'a>(
+pub fn records_out<'a, 'b>(
     toward: &'a [u16; 511],
     by: &'a [u16; 511],
     rank: &'a [u16; 511],
@@ -76,7 +89,9 @@ pub fn records_out<'a>(
     count: usize,
     vertices: u16,
     ina: bool,
-    t: Trail,
+    stops: &'b [u16; 511],
+    edges: &'b [u16; 511],
+    hops: usize,
     lo: usize,
     hi: usize,
     pairs: &[bool],
@@ -86,9 +101,9 @@ pub fn records_out<'a>(
 ) -> usize
     requires { ⌜ ReadableSome (drawing (now toward) (now by) (now rank) (now inb) (now places) (now parents) count) vertices (PairMarked (now pairs)) ⌝ }
     requires { ⌜ (vertices ≤ 511) × (511 * vertices ≤ length (now pairs)) × Covered (now pairs) (now rows) ⌝ }
-    requires { ⌜ Within (t .stops) (t .edges) 0 (t .hops) × (lo ≤ hi) × (hi ≤ t .hops) ⌝ }
-    requires { ⌜ RowsOf (length (now found)) (t .stops) (t .hops) × Blank vertices (now found) ⌝ }
-    ensures { λ r. ⌜ ReadingPut (drawing (now (toward .entry)) (now (by .entry)) (now (rank .entry)) (now (inb .entry)) (now (places .entry)) (now (parents .entry)) count) vertices (now (pairs .entry)) (t .stops) (t .edges) lo hi (t .hops) (now (found .entry)) (now (out .entry)) r (now (found .exit)) (now (out .exit)) ina ⌝ }
+    requires { ⌜ Within (now stops) (now edges) 0 hops × (lo ≤ hi) × (hi ≤ hops) ⌝ }
+    requires { ⌜ RowsOf (length (now found)) (now stops) hops × Blank vertices (now found) ⌝ }
+    ensures { λ r. ⌜ ReadingPut (drawing (now (toward .entry)) (now (by .entry)) (now (rank .entry)) (now (inb .entry)) (now (places .entry)) (now (parents .entry)) count) vertices (now (pairs .entry)) (now (stops .entry)) (now (edges .entry)) lo hi hops (now (found .entry)) (now (out .entry)) r (now (found .exit)) (now (out .exit)) ina ⌝ }
 {
     let n = clauses_out(
         toward,
@@ -115,7 +130,9 @@ pub fn records_out<'a>(
             parents,
             count,
             vertices,
-            t,
+            stops,
+            edges,
+            hops,
             lo,
             hi,
             found,

@@ -4,16 +4,16 @@ use super::readings::records_out;
 use super::stretches;
 use super::writing;
 use graphs::paths;
-use graphs::paths::Trail;
 ghost use mathlib.Core.List.{List};
 ghost use mathlib.Core.Path.{_≡_};
 ghost use Prim.Native.Nat.{ℕ, _*_, _≤_};
 ghost use lib.ListN.{length};
+ghost use Rattle.graphs.specs.Trails.{trail};
 ghost use Rattle.marking.specs.Drawn.{drawing};
 ghost use Rattle.summing.specs.Written.{Blank, AskingSome, Concluded, ConcludedSome, sideOf, Summarised};
 
 // Records that were written in a small buffer are copied, where all had room there; more are written again. So most summaries are read once.
-fn write_records<'a>(
+fn write_records<'a, 'b>(
     toward: &'a [u16; 511],
     by: &'a [u16; 511],
     rank: &'a [u16; 511],
@@ -23,7 +23,9 @@ fn write_records<'a>(
     count: usize,
     vertices: u16,
     ina: bool,
-    t: Trail,
+    stops: &'b [u16; 511],
+    edges: &'b [u16; 511],
+    hops: usize,
     lo: usize,
     hi: usize,
     pairs: &[bool],
@@ -31,9 +33,9 @@ fn write_records<'a>(
     found: &mut [bool],
     out: &mut [u8],
 ) -> usize
-    requires { ⌜ ConcludedSome (drawing (now toward) (now by) (now rank) (now inb) (now places) (now parents) count) vertices t lo hi (now pairs) (now rows) ina ⌝ }
+    requires { ⌜ ConcludedSome (drawing (now toward) (now by) (now rank) (now inb) (now places) (now parents) count) vertices (trail (now stops) (now edges) hops) lo hi (now pairs) (now rows) ina ⌝ }
     requires { ⌜ (vertices ≤ 511) × (511 * vertices ≤ length (now pairs)) × Blank vertices (now found) ⌝ }
-    ensures { λ r. ⌜ ((colours : List ℕ) (s u : ℕ) → Concluded (drawing (now (toward .entry)) (now (by .entry)) (now (rank .entry)) (now (inb .entry)) (now (places .entry)) (now (parents .entry)) count) vertices colours s u t lo hi (now (pairs .entry)) (now (rows .entry)) ina → Summarised (drawing (now (toward .entry)) (now (by .entry)) (now (rank .entry)) (now (inb .entry)) (now (places .entry)) (now (parents .entry)) count) vertices colours s u (sideOf ina) (now (out .entry)) r (now (out .exit))) ⌝ }
+    ensures { λ r. ⌜ ((colours : List ℕ) (s u : ℕ) → Concluded (drawing (now (toward .entry)) (now (by .entry)) (now (rank .entry)) (now (inb .entry)) (now (places .entry)) (now (parents .entry)) count) vertices colours s u (trail (now (stops .entry)) (now (edges .entry)) hops) lo hi (now (pairs .entry)) (now (rows .entry)) ina → Summarised (drawing (now (toward .entry)) (now (by .entry)) (now (rank .entry)) (now (inb .entry)) (now (places .entry)) (now (parents .entry)) count) vertices colours s u (sideOf ina) (now (out .entry)) r (now (out .exit))) ⌝ }
 {
     let mut small = [0u8; 2048];
     let n = records_out(
@@ -46,7 +48,9 @@ fn write_records<'a>(
         count,
         vertices,
         ina,
-        t,
+        stops,
+        edges,
+        hops,
         lo,
         hi,
         pairs,
@@ -71,7 +75,9 @@ fn write_records<'a>(
         count,
         vertices,
         ina,
-        t,
+        stops,
+        edges,
+        hops,
         lo,
         hi,
         pairs,
@@ -116,7 +122,9 @@ fn write_in<'a>(
         places,
         parents,
         count,
-        p,
+        &p.stops,
+        &p.edges,
+        hops,
         lo,
         hi,
         pairs,
@@ -132,7 +140,9 @@ fn write_in<'a>(
         count,
         vertices,
         ina,
-        p,
+        &p.stops,
+        &p.edges,
+        hops,
         lo,
         hi,
         pairs,

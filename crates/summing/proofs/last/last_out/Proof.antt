@@ -28,11 +28,11 @@ premises-out-requires c κs =
 
 put-last-requires : tie.Need-put-last-requires
 put-last-requires c κs =
-    let p = c .before .before .before .before .before .before .before .before .before .before .before .before .before .before .before .before .before .before .before .before .before .before .before .before .before .before .before .before .pre .1 .0 in
-    (p .1, omega (arith, p .2, p .0 .short), omega (arith, c .before .before .before .before .before .before .before .premises-out .ensures .few, p .4))
+    let p = c .before .before .before .before .before .before .before .before .before .before .before .before .before .before .before .before .before .before .before .before .before .before .before .before .before .before .pre .1 .0 in
+    (p .1, omega (arith, p .2, p .0 .short), omega (arith, c .before .before .before .before .before .premises-out .ensures .few, p .4))
 
 add-result : tie.Need-add-result
-add-result c = omega (arith, c .before .before .before .before .before .before .before .before .before .before .premises-out .ensures .few, c .before .before .before .before .before .before .before .before .before .before .before .before .before .before .before .before .before .before .before .before .before .before .before .before .before .before .before .before .before .before .before .pre .1 .0 .4)
+add-result c = omega (arith, c .before .before .before .before .before .before .before .before .premises-out .ensures .few, c .before .before .before .before .before .before .before .before .before .before .before .before .before .before .before .before .before .before .before .before .before .before .before .before .before .before .before .before .before .pre .1 .0 .4)
 
 same-length : tie.Need-same-length
 same-length c = search needs
@@ -41,7 +41,7 @@ same-length-2 : tie.Need-same-length-2
 same-length-2 c = search needs
 
 returns : tie.Need-returns
-returns c = last-put _ _ _ _ _ _ _ (c .before .before .before .before .before .before .before .before .before .before .before .before .before .before .before .before .before .before .before .before .before .before .before .before .before .before .before .before .before .before .before .pre .1 .0 .3) (c .before .before .before .before .before .before .before .before .before .before .before .before .before .before .before .before .before .before .before .before .before .before .before .before .before .before .before .before .before .before .before .args .found .now) _ _ _ _ _ _ _ _ _ (c .before .before .before .before .before .before .before .before .before .before .before .before .before .before .before .before .before .before .before .before .before .before .before .before .before .before .before .before .before .before .before .pre .1 .1 .1 .clear) (c .before .before .before .before .before .before .before .before .before .before .before .before .before .before .before .before .before .before .before .before .before .want-outer .ensures) (c .before .before .before .before .before .before .before .before .before .before .before .before .before .before .before .before .settle .ensures) _ _ _ _ _ _ (c .before .before .before .before .before .before .before .before .before .before .premises-out .ensures) (c .before .before .put-last .ensures)
+returns c = last-put _ _ _ _ _ _ _ (c .before .before .before .before .before .before .before .before .before .before .before .before .before .before .before .before .before .before .before .before .before .before .before .before .before .before .before .before .before .pre .1 .0 .3) (c .before .before .before .before .before .before .before .before .before .before .before .before .before .before .before .before .before .before .before .before .before .before .before .before .before .before .before .before .before .args .found .now) _ _ _ _ _ _ _ _ _ (c .before .before .before .before .before .before .before .before .before .before .before .before .before .before .before .before .before .before .before .before .before .before .before .before .before .before .before .before .before .pre .1 .1 .1 .clear) (c .before .before .before .before .before .before .before .before .before .before .before .before .before .before .before .before .before .before .before .want-outer .ensures) (c .before .before .before .before .before .before .before .before .before .before .before .before .before .before .settle .ensures) _ _ _ _ _ _ (c .before .before .before .before .before .before .before .before .premises-out .ensures) (c .before .before .put-last .ensures)
 
 pub last-out-spec : {M : Type 1} → statement M
 last-out-spec =

@@ -40,7 +40,7 @@ same-length-4 c = search needs
 
 returns-2 : tie.Need-returns-2
 returns-2 c =
-    reading-B (c .before .before .before .before .before .before .before .before .before .before .before .args .ina) (c .if1 .left) (c .before .before .before .before .before .before .before .before .before .before .before .args .pairs .now) (c .before .before .before .before .before .before .before .before .before .before .before .args .t .stops) (c .before .before .before .before .before .before .before .before .before .before .before .args .t .edges) (c .before .before .before .before .before .before .before .before .before .before .before .args .lo) (c .before .before .before .before .before .before .before .before .before .before .before .args .hi) (c .before .before .before .before .before .before .before .before .before .before .before .args .t .hops) (c .before .before .before .before .before .clauses-out .ensures)
+    reading-B (c .before .before .before .before .before .before .before .before .before .before .before .args .ina) (c .if1 .left) (c .before .before .before .before .before .before .before .before .before .before .before .args .pairs .now) (c .before .before .before .before .before .before .before .before .before .before .before .args .stops .now) (c .before .before .before .before .before .before .before .before .before .before .before .args .edges .now) (c .before .before .before .before .before .before .before .before .before .before .before .args .lo) (c .before .before .before .before .before .before .before .before .before .before .before .args .hi) (c .before .before .before .before .before .before .before .before .before .before .before .args .hops) (c .before .before .before .before .before .clauses-out .ensures)
 
 pub records-out-spec : {M : Type 1} → statement M
 records-out-spec =

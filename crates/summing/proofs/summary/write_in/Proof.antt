@@ -24,21 +24,21 @@ middle-to-requires c κs =
 
 conclude-requires : tie.Need-conclude-requires
 conclude-requires c κs =
-    let p = c .before .before .before .before .before .before .before .before .before .before .before .before .before .before .pre in
+    let p = c .before .before .before .before .before .before .before .before .before .before .before .before .before .before .before .before .before .pre in
     let a = p .0 .0 in
-    let t = c .before .before .before .before .before .before .before .before .before .before .path in
-    let lo = from-within (c .before .before .before .before .before .before .before .before .before .before .before .before .before .before .args .ina) (c .before .before .before .before .before .before .before .before .before .before .before .before .before .before .args .colours .now) (c .before .before .before .before .before .before .before .before .before .before .path .result .stops) (c .before .before .before .before .before .before .before .before .before .before .path .result .hops) _ (c .before .before .before .before .before .before .middle-from .ensures) in
-    let to = to-within (c .before .before .before .before .before .before .before .before .before .before .before .before .before .before .args .ina) (c .before .before .before .before .before .before .before .before .before .before .before .before .before .before .args .colours .now) (t .result .stops) _ (t .result .hops) _ lo (c .before .before .middle-to .ensures) in
+    let t = c .before .before .before .before .before .before .before .before .before .before .before .before .before .path in
+    let lo = from-within (c .before .before .before .before .before .before .before .before .before .before .before .before .before .before .before .before .before .args .ina) (c .before .before .before .before .before .before .before .before .before .before .before .before .before .before .before .before .before .args .colours .now) (c .before .before .before .before .before .before .before .before .before .before .before .before .before .path .result .stops) (c .before .before .before .before .before .before .before .before .before .before .before .before .before .path .result .hops) _ (c .before .before .before .before .before .before .before .before .before .middle-from .ensures) in
+    let to = to-within (c .before .before .before .before .before .before .before .before .before .before .before .before .before .before .before .before .before .args .ina) (c .before .before .before .before .before .before .before .before .before .before .before .before .before .before .before .before .before .args .colours .now) (t .result .stops) _ (t .result .hops) _ lo (c .before .before .before .before .before .middle-to .ensures) in
     (asked-drawn _ _ _ _ _ (p .0 .1) _ (p .1 .0 .rows) a, ((sides-read _ _ _ _ _ (p .0 .1) (t .result) (t .ensures) _ _ _ _ (a .4) .within, to .0, to .1), (sides-rows _ _ _ _ _ (p .0 .1) (t .result) (t .ensures) _ (p .1 .0 .rows) a, p .1 .0 .clear, length-replicate 511 false)))
 
 write-records-requires : tie.Need-write-records-requires
 write-records-requires c κs =
-    let p = c .before .before .before .before .before .before .before .before .before .before .before .before .before .before .before .before .before .before .before .before .before .pre in
-    let k = c .before .before .before .before .before .before .conclude .ensures in
-    ((_, _, _, record { asking = p .0 .0; given = c .before .before .before .before .before .before .before .before .before .before .before .before .before .before .before .before .before .path .ensures; from = c .before .before .before .before .before .before .before .before .before .before .before .before .before .middle-from .ensures; to = c .before .before .before .before .before .before .before .before .before .middle-to .ensures; concluding = k .1 }), (p .0 .1, omega (arith, k .0, p .1 .0 .rows), p .1 .1))
+    let p = c .before .before .before .before .before .before .before .before .before .before .before .before .before .before .before .before .before .before .before .before .before .before .before .before .before .before .before .pre in
+    let k = c .before .before .before .before .before .before .before .before .before .conclude .ensures in
+    ((_, _, _, record { asking = p .0 .0; given = c .before .before .before .before .before .before .before .before .before .before .before .before .before .before .before .before .before .before .before .before .before .before .before .path .ensures; from = c .before .before .before .before .before .before .before .before .before .before .before .before .before .before .before .before .before .before .before .middle-from .ensures; to = c .before .before .before .before .before .before .before .before .before .before .before .before .before .before .before .middle-to .ensures; concluding = k .1 }), (p .0 .1, omega (arith, k .0, p .1 .0 .rows), p .1 .1))
 
 same-length : tie.Need-same-length
-same-length c = c .before .before .before .before .before .before .before .before .before .before .before .conclude .ensures .0
+same-length c = c .before .before .before .before .before .before .before .before .before .before .before .before .before .before .conclude .ensures .0
 
 same-length-2 : tie.Need-same-length-2
 same-length-2 c = search needs
@@ -48,8 +48,8 @@ same-length-3 c = search needs
 
 returns : tie.Need-returns
 returns c =
-    let k = c .before .before .before .before .before .before .before .before .before .before .before .conclude .ensures in
-    c .before .before .before .before .write-records .ensures _ _ _ (record { asking = c .before .before .before .before .before .before .before .before .before .before .before .before .before .before .before .before .before .before .before .before .before .before .before .before .before .before .pre .0 .0; given = c .before .before .before .before .before .before .before .before .before .before .before .before .before .before .before .before .before .before .before .before .before .before .path .ensures; from = c .before .before .before .before .before .before .before .before .before .before .before .before .before .before .before .before .before .before .middle-from .ensures; to = c .before .before .before .before .before .before .before .before .before .before .before .before .before .before .middle-to .ensures; concluding = k .1 })
+    let k = c .before .before .before .before .before .before .before .before .before .before .before .before .before .before .conclude .ensures in
+    c .before .before .before .before .write-records .ensures _ _ _ (record { asking = c .before .before .before .before .before .before .before .before .before .before .before .before .before .before .before .before .before .before .before .before .before .before .before .before .before .before .before .before .before .before .before .before .pre .0 .0; given = c .before .before .before .before .before .before .before .before .before .before .before .before .before .before .before .before .before .before .before .before .before .before .before .before .before .before .before .before .path .ensures; from = c .before .before .before .before .before .before .before .before .before .before .before .before .before .before .before .before .before .before .before .before .before .before .before .before .middle-from .ensures; to = c .before .before .before .before .before .before .before .before .before .before .before .before .before .before .before .before .before .before .before .before .middle-to .ensures; concluding = k .1 })
 
 pub write-in-spec : {M : Type 1} → statement M
 write-in-spec =

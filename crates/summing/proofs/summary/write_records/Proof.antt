@@ -2,6 +2,7 @@
 use Prim.Native.Nat.{ℕ}
 use native.Mathlib.Omega.{arith}
 use lib.ListN.{length-replicate}
+use Rattle.graphs.specs.Trails.{trail}
 use Rattle.summing.proofs.Summing.{sides-read, sides-rows}
 use Rattle.summing.proofs.BothSides.{from-within, to-within, readable-some, reading-sized, reading-clear, summary-counted, summary-copied, summary-written}
 use borrow.Author.Needs.{needs}
@@ -18,8 +19,8 @@ records-out-requires c κs =
     let w = p .0 .3 in
     let a = w .asking in
     let r = c .before .before .before .before .before .args in
-    let lo = from-within (r .ina) (p .0 .0) (r .t .stops) (r .t .hops) (r .lo) (w .from) in
-    let to = to-within (r .ina) (p .0 .0) (r .t .stops) (r .lo) (r .t .hops) (r .hi) lo (w .to) in
+    let lo = from-within (r .ina) (p .0 .0) (r .stops .now) (r .hops) (r .lo) (w .from) in
+    let to = to-within (r .ina) (p .0 .0) (r .stops .now) (r .lo) (r .hops) (r .hi) lo (w .to) in
     (readable-some _ _ _ _ _ small _ _ _ _ _ _ w, ((small, p .1 .1, w .concluding .cover), ((sides-read _ _ _ _ _ small _ (w .given) _ _ _ _ (a .4) .within, to .0, to .1), (sides-rows _ _ _ _ _ small _ (w .given) _ (p .1 .2 .rows) a, p .1 .2))))
 
 same-length : tie.Need-same-length
@@ -37,7 +38,7 @@ mul-copy c = omega (arith, c .before .if2 .taken)
 copy-requires : tie.Need-copy-requires
 copy-requires c κs =
     let a = c .before .before .before .before .before .before .before .before .before .before .before .before .before .args in
-    let sized = reading-sized (a .ina) _ _ _ (a .t .stops) (a .t .edges) (a .lo) (a .hi) (a .t .hops) _ _ _ _ _ (c .before .before .before .before .before .before .before .records-out .ensures) in
+    let sized = reading-sized (a .ina) _ _ _ (a .stops .now) (a .edges .now) (a .lo) (a .hi) (a .hops) _ _ _ _ _ (c .before .before .before .before .before .before .before .records-out .ensures) in
     (omega (arith, c .before .before .if2 .taken, sized .1, length-replicate {A = ℕ} 2048 0), omega (arith, c .before .before .before .if1 .left))
 
 same-length-2 : tie.Need-same-length-2
@@ -56,11 +57,11 @@ records-out-requires-2 c κs =
     let w = p .0 .3 in
     let a = w .asking in
     let r = c .before .before .before .before .before .before .before .before .before .before .before .before .before .args in
-    let lo = from-within (r .ina) (p .0 .0) (r .t .stops) (r .t .hops) (r .lo) (w .from) in
-    let to = to-within (r .ina) (p .0 .0) (r .t .stops) (r .lo) (r .t .hops) (r .hi) lo (w .to) in
+    let lo = from-within (r .ina) (p .0 .0) (r .stops .now) (r .hops) (r .lo) (w .from) in
+    let to = to-within (r .ina) (p .0 .0) (r .stops .now) (r .lo) (r .hops) (r .hi) lo (w .to) in
     let q = c .before .before .before .before .before .before .before .records-out .ensures in
-    let sized = reading-sized (r .ina) _ _ _ (r .t .stops) (r .t .edges) (r .lo) (r .hi) (r .t .hops) _ _ _ _ _ q in
-    (readable-some _ _ _ _ _ small _ _ _ _ _ _ w, ((small, p .1 .1, w .concluding .cover), ((sides-read _ _ _ _ _ small _ (w .given) _ _ _ _ (a .4) .within, to .0, to .1), (sides-rows _ _ _ _ _ small _ (w .given) _ (omega (arith, sized .0, p .1 .2 .rows)) a, record { rows = omega (arith, sized .0, p .1 .2 .rows); clear = reading-clear _ _ _ _ _ small (r .t) (r .lo) (r .hi) _ _ _ _ _ _ _ (r .ina) w q }))))
+    let sized = reading-sized (r .ina) _ _ _ (r .stops .now) (r .edges .now) (r .lo) (r .hi) (r .hops) _ _ _ _ _ q in
+    (readable-some _ _ _ _ _ small _ _ _ _ _ _ w, ((small, p .1 .1, w .concluding .cover), ((sides-read _ _ _ _ _ small _ (w .given) _ _ _ _ (a .4) .within, to .0, to .1), (sides-rows _ _ _ _ _ small _ (w .given) _ (omega (arith, sized .0, p .1 .2 .rows)) a, record { rows = omega (arith, sized .0, p .1 .2 .rows); clear = reading-clear _ _ _ _ _ small (trail (r .stops .now) (r .edges .now) (r .hops)) (r .lo) (r .hi) _ _ _ _ _ _ _ (r .ina) w q }))))
 
 same-length-4 : tie.Need-same-length-4
 same-length-4 c = search needs
