@@ -1,6 +1,6 @@
 -- What is marked after stretches are read, and the clauses written from the marks.
 use mathlib.Core.Bool.{Bool, true, false, cond}
-use mathlib.Core.List.{List, [], _∷_, _++_, map, flatMap, append-assoc, append-nil, List·Memᴰ}
+use mathlib.Core.List.{List, [], _∷_, _++_, map, flatMap, append-assoc, append-nil, List·Memᴰ, List·Memᴰ·not-nil}
 use mathlib.Core.Logic.{_⊎_, inl, inr, ⊎-elim, _↔_}
 use mathlib.Core.Path.{_≡_, refl, sym, ap, ap₂, subst, _∙_}
 use Prim.Native.Nat.{ℕ, zero, suc, _+_, _*_, _≤_, _<_}
@@ -17,14 +17,14 @@ use Rattle.closure.proofs.Walking.Walks.{older-fewer}
 use Rattle.closure.proofs.Walking.OnePath.{path-is}
 use Rattle.closure.proofs.Walking.Parents.{path-hop}
 use Rattle.clauses.specs.Clauses.{between, Conclusion, differs, falsum}
-use Rattle.clauses.specs.Premises.{premises, Premise}
+use Rattle.clauses.specs.Premises.{premises, Premise, own, parent}
 use Rattle.clauses.specs.Records.{amongPairs, ascending, clauseRecord, conclusionRecord}
-use Rattle.marking.specs.Marks.{Reached, PairWithin, PairMarked, Marked, Covered, Owed, Trailed, Wanted, OuterWanted}
+use Rattle.marking.specs.Marks.{Reached, PairWithin, PairMarked, Marked, Covered, Owed, Trailed, done, Wanted, OuterWanted}
 use Rattle.marking.specs.Drawn.{Drawing, Drawn, Settled}
 use Rattle.summing.specs.Writing.{putRecord, putRecords, marked, rowPairs, PremisesOut, AllOut}
-use Rattle.summing.specs.Written.{clauseOf, clauseOut, RecordsPut, Clear, Blank, Readable, ReadableSome, ClausesPut, Over, Concluding, notAt, LastPut}
+use Rattle.summing.specs.Written.{clauseOf, clauseOut, RecordsPut, Clear, Blank, Readable, ReadableSome, ClausesPut, Over, Concluding, notAt, PremisesPut, LastPut}
 use Rattle.marking.proofs.Reached.{reached-premise, premise-reached, wants-owed, owed-kept, reached-owed}
-use Rattle.clauses.proofs.Pieces.{records-clause, record-equals, record-differs, record-falsum, ascending-kept, among-mem}
+use Rattle.clauses.proofs.Pieces.{no-factor, records-clause, record-equals, record-differs, record-falsum, ascending-kept, among-mem}
 use Rattle.clauses.proofs.OneClause.{premise-within, premisesIn-mean}
 use Rattle.clauses.proofs.Records.{record-length, conclusionRecord-kind}
 use Rattle.marking.proofs.Squares.{between-below, between-above}
@@ -91,9 +91,37 @@ marked-ascending n found ps small f =
     (λ p m. let w = pairsBelow-mem n p m in let g = f p (w .0, omega (arith, w .1)) in let a = among-mem ps p in same-test (marked found p) (amongPairs ps p) (λ x. a .1 (g .0 x)) (λ x. g .1 (a .0 x))) ∙
     sym (ascending-kept n ps)
 
+-- ---- the premises of two stretches
+
+module _ (arrays : Drawing) (stops edges : List ℕ) (lo hi hops : ℕ) where
+  module _ (n : ℕ) (small : n ≤ 511) (found rows f₂ r₂ i₂ u₂ f₃ r₃ i₃ u₃ : List Bool) (c : Clear found) (o : OuterWanted (arrays .inb) stops edges lo hi hops true found rows (replicate 510 false) (replicate 510 false) f₂ r₂ i₂ u₂) (s : Settled arrays true f₂ r₂ i₂ u₂ f₃ r₃ i₃ u₃) where
+    -- the premises of two stretches are what is marked
+    outer-marked : (ts : List Term) (ls : List Literal) (table : List Term) (G : Graph) → Drawn arrays ts ls table G → (before after : Path) → Over G before → Over G after → Trailed (arrays .inb) stops edges lo 0 before → Trailed (arrays .inb) stops edges hops hi after → (p : Pair) → PairWithin 511 p → PairMarked f₃ p ↔ (Premise table p before ⊎ Premise table p after)
+    outer-marked ts ls table G d before after ob oa tb ta p v =
+        let read = owed-wanted arrays ts ls table G d true in
+        let x = read true before ob stops edges 0 lo found rows (replicate 510 false) (replicate 510 false) (o .pairs₁) (o .rows₁) (o .inside₁) (o .under₁) tb (o .before) p v in
+        let y = read true after oa stops edges hi hops (o .pairs₁) (o .rows₁) (o .inside₁) (o .under₁) f₂ r₂ i₂ u₂ ta (o .after) p v in
+        let m = s .marks ts ls table G d p v in
+        (λ k. ⊎-elim (λ z. ⊎-elim (λ q. absurd (none-owed arrays ts ls table G d true found c p v q)) (λ q. inl (reached-premise table p q)) (x .0 z)) (λ z. inr (reached-premise table p z)) (y .0 (m .0 k)), λ k. m .1 (y .1 (⊎-elim (λ z. inl (x .1 (inr (premise-reached table p z)))) (λ z. inr (premise-reached table p z)) k)))
+
+    -- they are written
+    pub outer-put : (f₄ : List Bool) (at r : ℕ) (out out₁ : List ℕ) → AllOut n at f₃ out r f₄ out₁ → PremisesPut arrays n stops edges lo hi hops at found out r f₄ out₁
+    outer-put f₄ at r out out₁ a =
+        record {
+          few = a .few;
+          same = premises-length (keep (marked f₃) (pairsBelow n)) at out r out₁ (a .premises);
+          sized = a .sized ∙ s .same ∙ o .after .same ∙ o .before .same;
+          written = λ ts ls table G d before after ob oa tb ta qs f. let marks : (p : Pair) → PairWithin 511 p → PairMarked f₃ p ↔ List·Memᴰ p qs = λ p v. let x = outer-marked ts ls table G d before after ob oa tb ta p v in (λ k. f p .1 (x .0 k), λ k. x .1 (f p .0 k)) in (subst (λ (ps : List Pair). RecordsPut (map (clauseRecord 1) ps) at out r out₁) (marked-ascending n f₃ qs small marks) (premises-put (keep (marked f₃) (pairsBelow n)) at out r out₁ (a .premises)), λ low p k m. let y = a .left-over p k .0 m in omega (arith, y .1, low p (marks p k .0 (y .0))));
+        }
+
 -- ---- one clause
 
-module _ (arrays : Drawing) (n u v : ℕ) (less : u < v) (within : v < n) (small : n ≤ 511) where
+-- an empty path has no premise
+empty-premise : (table : List Term) (p : Pair) → Premise table p [] → ⊥
+empty-premise table p (own m e q) = no-factor m
+empty-premise table p (parent m e k n r) = no-factor m
+
+module _ (arrays : Drawing) (n u v : ℕ) (less : u < v) (within : v < n) where
   -- this pair
   abbrev Here : Pair → Type 0
   Here p = p ≡ pair u v
@@ -102,27 +130,26 @@ module _ (arrays : Drawing) (n u v : ℕ) (less : u < v) (within : v < n) (small
   abbrev ReadableHere : List Term → List Literal → List Term → Graph → Type 0
   ReadableHere ts ls table G = Readable arrays n Here ts ls table G
 
-  -- the premises of the path between u and v are what is marked
-  pub premises-marked : (ts : List Term) (ls : List Literal) (table : List Term) (G : Graph) → ReadableHere ts ls table G → (stops edges : List ℕ) (hops : ℕ) → Trailed (arrays .inb) stops edges hops 0 (path G u v) → (found rows found₁ rows₁ inside₁ under₁ found₂ rows₂ inside₂ under₂ : List Bool) → Clear found → Wanted (arrays .inb) stops edges 0 hops true true found rows (replicate 510 false) (replicate 510 false) found₁ rows₁ inside₁ under₁ → Settled arrays true found₁ rows₁ inside₁ under₁ found₂ rows₂ inside₂ under₂ → (p : Pair) → PairWithin 511 p → PairMarked found₂ p ↔ Premise table p (path G u v)
-  premises-marked ts ls table G x stops edges hops t found rows found₁ rows₁ inside₁ under₁ found₂ rows₂ inside₂ under₂ c w s p k =
-      let d = x .drawn in
-      let m = s .marks ts ls table G d p k in
-      let o = owed-wanted arrays ts ls table G d true true (path G u v) (λ h y. path-hop G u v y) stops edges 0 hops found rows (replicate 510 false) (replicate 510 false) found₁ rows₁ inside₁ under₁ t w p k in
-      (λ y. ⊎-elim (λ z. absurd (none-owed arrays ts ls table G d true found c p k z)) (λ z. reached-premise table p z) (o .0 (m .0 y)), λ y. m .1 (o .1 (inr (premise-reached table p y))))
+  module _ (stops edges : List ℕ) (hops : ℕ) (trail : (ts : List Term) (ls : List Literal) (table : List Term) (G : Graph) → ReadableHere ts ls table G → Trailed (arrays .inb) stops edges hops 0 (path G u v)) (at r : ℕ) (found found′ : List Bool) (out out₁ : List ℕ) (y : PremisesPut arrays n stops edges hops hops hops at found out r found′ out₁) where
+    -- the premises of the path between u and v are written: all of it stands before its end
+    path-premises : (ts : List Term) (ls : List Literal) (table : List Term) (G : Graph) → ReadableHere ts ls table G → RecordsPut (map (clauseRecord 1) (ascending n (premises (length G) table (path G u v)))) at out r out₁ × Clear found′
+    path-premises ts ls table G x =
+        let mean : (p : Pair) → List·Memᴰ p (premises (length G) table (path G u v)) ↔ Premise table p (path G u v) = premisesIn-mean ts ls table G u v in
+        let z = y .written ts ls table G (x .drawn) (path G u v) [] (λ h m. path-hop G u v m) (λ h m. absurd (List·Memᴰ·not-nil m)) (trail ts ls table G x) (done refl) (premises (length G) table (path G u v)) (λ p. (λ m. inl (mean p .0 m), λ k. ⊎-elim (λ q. mean p .1 q) (λ q. absurd (empty-premise table p q)) k)) in
+        (z .0, z .1 (λ p m. let q = premise-within ts ls table p (x .drawn .sound) (path-is G u v (x .connected (pair u v) (less, within) refl)) (mean p .0 m) in omega (arith, q .1, x .terms)))
 
-  -- one clause written: its premises, and the pair
-  pub clause-put : ReadableSome arrays n Here → (stops edges : List ℕ) (hops : ℕ) → ((ts : List Term) (ls : List Literal) (table : List Term) (G : Graph) → ReadableHere ts ls table G → Trailed (arrays .inb) stops edges hops 0 (path G u v)) → (found rows found₁ rows₁ inside₁ under₁ found₂ rows₂ inside₂ under₂ found₃ : List Bool) (at r : ℕ) (out out₁ : List ℕ) → Clear found → Wanted (arrays .inb) stops edges 0 hops true true found rows (replicate 510 false) (replicate 510 false) found₁ rows₁ inside₁ under₁ → Settled arrays true found₁ rows₁ inside₁ under₁ found₂ rows₂ inside₂ under₂ → AllOut n at found₂ out r found₃ out₁ → (out₂ : List ℕ) → out₂ ≡ putRecord r (clauseRecord 2 (pair u v)) out₁ → ClausesPut arrays n Here (pair u v ∷ []) 1 at found out (r + 1) found₃ out₂
-  unfolding clauseOut clauseOf flatMap
-  clause-put some stops edges hops trail found rows found₁ rows₁ inside₁ under₁ found₂ rows₂ inside₂ under₂ found₃ at r out out₁ c w s a out₂ e₂ =
-      let marks : (ts : List Term) (ls : List Literal) (table : List Term) (G : Graph) → ReadableHere ts ls table G → (p : Pair) → PairWithin 511 p → PairMarked found₂ p ↔ Premise table p (path G u v) = λ ts ls table G x p k. premises-marked ts ls table G x stops edges hops (trail ts ls table G x) found rows found₁ rows₁ inside₁ under₁ found₂ rows₂ inside₂ under₂ c w s p k in
-      subst (ClausesPut arrays n Here (pair u v ∷ []) 1 at found out (r + 1) found₃) (sym e₂)
-      (record {
-        few = omega (arith, a .few);
-        same = put-length r (clauseRecord 2 (pair u v)) out₁ (record-length 2 (pair u v)) ∙ premises-length (keep (marked found₂) (pairsBelow n)) at out r out₁ (a .premises);
-        sized = a .sized ∙ s .same ∙ w .same;
-        clear = λ p k m. let y = a .left-over p k .0 m in let x = some .4 in let z = premise-within (some .0) (some .1) (some .2) p (x .drawn .sound) (path-is (some .3) u v (x .connected (pair u v) (less, within) refl)) (marks (some .0) (some .1) (some .2) (some .3) x p k .0 (y .0)) in omega (arith, y .1, z .1, x .terms);
-        written = λ ts ls table G x. let e = marked-ascending n found₂ (premises (length G) table (path G u v)) small (λ p k. let f = marks ts ls table G x p k in let g = premisesIn-mean ts ls table G u v p in (λ y. g .1 (f .0 y), λ y. f .1 (g .0 y))) in let q = records-more (map (clauseRecord 1) (keep (marked found₂) (pairsBelow n))) (clauseRecord 2 (pair u v)) at out r out₁ (premises-put (keep (marked found₂) (pairsBelow n)) at out r out₁ (a .premises)) in subst (λ (rs : List (List ℕ)). RecordsPut rs at out (r + 1) (putRecord r (clauseRecord 2 (pair u v)) out₁)) (sym (append-nil (clauseOut n table G (pair u v)) ∙ records-clause (clauseOf n table G (pair u v)) ∙ ap (λ (x : List ℕ). map (clauseRecord 1) (ascending n (premises (length G) table (path G u v))) ++ (x ∷ [])) (record-equals (pair u v)))) (subst (λ (ps : List Pair). RecordsPut (map (clauseRecord 1) ps ++ (clauseRecord 2 (pair u v) ∷ [])) at out (r + 1) (putRecord r (clauseRecord 2 (pair u v)) out₁)) e q);
-      })
+    -- and then the pair
+    pub clause-put : ReadableSome arrays n Here → (out₂ : List ℕ) → out₂ ≡ putRecord r (clauseRecord 2 (pair u v)) out₁ → ClausesPut arrays n Here (pair u v ∷ []) 1 at found out (r + 1) found′ out₂
+    unfolding clauseOut clauseOf flatMap
+    clause-put some out₂ e₂ =
+        subst (ClausesPut arrays n Here (pair u v ∷ []) 1 at found out (r + 1) found′) (sym e₂)
+        (record {
+          few = omega (arith, y .few);
+          same = put-length r (clauseRecord 2 (pair u v)) out₁ (record-length 2 (pair u v)) ∙ y .same;
+          sized = y .sized;
+          clear = path-premises (some .0) (some .1) (some .2) (some .3) (some .4) .1;
+          written = λ ts ls table G x. let q = records-more (map (clauseRecord 1) (ascending n (premises (length G) table (path G u v)))) (clauseRecord 2 (pair u v)) at out r out₁ (path-premises ts ls table G x .0) in subst (λ (rs : List (List ℕ)). RecordsPut rs at out (r + 1) (putRecord r (clauseRecord 2 (pair u v)) out₁)) (sym (append-nil (clauseOut n table G (pair u v)) ∙ records-clause (clauseOf n table G (pair u v)) ∙ ap (λ (x : List ℕ). map (clauseRecord 1) (ascending n (premises (length G) table (path G u v))) ++ (x ∷ [])) (record-equals (pair u v)))) q;
+        })
 
 -- ---- clauses one behind the other
 
@@ -283,24 +310,14 @@ module _ (arrays : Drawing) (stops edges : List ℕ) (lo hi hops : ℕ) where
         marks = λ ts ls table G d before middle after ob om oa tb tm ta p v. let read = owed-wanted arrays ts ls table G d false in let a = read true middle om stops edges lo hi pairs rows (replicate 510 false) (replicate 510 false) p₁ r₁ i₁ u₁ tm w p v in let b = read false before ob stops edges 0 lo p₁ r₁ i₁ u₁ (o .pairs₁) (o .rows₁) (o .inside₁) (o .under₁) tb (o .before) p v in let e = read false after oa stops edges hi hops (o .pairs₁) (o .rows₁) (o .inside₁) (o .under₁) p₃ r₃ i₃ u₃ ta (o .after) p v in let m = s .marks ts ls table G d p v in (λ x. ⊎-elim (λ y. ⊎-elim (λ z. ⊎-elim (λ q. absurd (none-owed arrays ts ls table G d false pairs c p v q)) inl (a .0 z)) (λ z. inr (inl z)) (b .0 y)) (λ y. inr (inr y)) (e .0 (m .0 x)), λ x. m .1 (e .1 (⊎-elim (λ y. inl (b .1 (inl (a .1 (inr y))))) (λ y. ⊎-elim (λ z. inl (b .1 (inr z))) (λ z. inr z) y) x)));
       }
 
-  module _ (n : ℕ) (small : n ≤ 511) (found rows f₂ r₂ i₂ u₂ f₃ r₃ i₃ u₃ : List Bool) (c : Clear found) (o : OuterWanted (arrays .inb) stops edges lo hi hops true found rows (replicate 510 false) (replicate 510 false) f₂ r₂ i₂ u₂) (s : Settled arrays true f₂ r₂ i₂ u₂ f₃ r₃ i₃ u₃) where
-    -- the premises of two stretches are what is marked
-    outer-marked : (ts : List Term) (ls : List Literal) (table : List Term) (G : Graph) → Drawn arrays ts ls table G → (before after : Path) → Over G before → Over G after → Trailed (arrays .inb) stops edges lo 0 before → Trailed (arrays .inb) stops edges hops hi after → (p : Pair) → PairWithin 511 p → PairMarked f₃ p ↔ (Premise table p before ⊎ Premise table p after)
-    outer-marked ts ls table G d before after ob oa tb ta p v =
-        let read = owed-wanted arrays ts ls table G d true in
-        let x = read true before ob stops edges 0 lo found rows (replicate 510 false) (replicate 510 false) (o .pairs₁) (o .rows₁) (o .inside₁) (o .under₁) tb (o .before) p v in
-        let y = read true after oa stops edges hi hops (o .pairs₁) (o .rows₁) (o .inside₁) (o .under₁) f₂ r₂ i₂ u₂ ta (o .after) p v in
-        let m = s .marks ts ls table G d p v in
-        (λ k. ⊎-elim (λ z. ⊎-elim (λ q. absurd (none-owed arrays ts ls table G d true found c p v q)) (λ q. inl (reached-premise table p q)) (x .0 z)) (λ z. inr (reached-premise table p z)) (y .0 (m .0 k)), λ k. m .1 (y .1 (⊎-elim (λ z. inl (x .1 (inr (premise-reached table p z)))) (λ z. inr (premise-reached table p z)) k)))
-
-    -- they are written, and then the last conclusion
-    pub last-put : (f₄ : List Bool) (at r : ℕ) (out out₁ out₂ : List ℕ) → AllOut n at f₃ out r f₄ out₁ → out₂ ≡ putRecord r (conclusionRecord (notAt stops lo hi)) out₁ → LastPut arrays n stops edges lo hi hops at found out (r + 1) f₄ out₂
-    last-put f₄ at r out out₁ out₂ a e₂ =
-        record {
-          written = λ ts ls table G d before after ob oa tb ta qs f. let marks : (p : Pair) → PairWithin 511 p → PairMarked f₃ p ↔ List·Memᴰ p qs = λ p v. let x = outer-marked ts ls table G d before after ob oa tb ta p v in (λ k. f p .1 (x .0 k), λ k. x .1 (f p .0 k)) in (subst (λ (rs : List (List ℕ)). RecordsPut rs at out (r + 1) out₂) (sym (records-clause (record { premises = ascending n qs; conclusion = notAt stops lo hi }))) (subst (λ (o : List ℕ). RecordsPut (map (clauseRecord 1) (ascending n qs) ++ (conclusionRecord (notAt stops lo hi) ∷ [])) at out (r + 1) o) (sym e₂) (records-more (map (clauseRecord 1) (ascending n qs)) (conclusionRecord (notAt stops lo hi)) at out r out₁ (subst (λ (ps : List Pair). RecordsPut (map (clauseRecord 1) ps) at out r out₁) (marked-ascending n f₃ qs small marks) (premises-put (keep (marked f₃) (pairsBelow n)) at out r out₁ (a .premises))))), λ low p k m. let y = a .left-over p k .0 m in omega (arith, y .1, low p (marks p k .0 (y .0))));
-          same = ap length e₂ ∙ put-length r (conclusionRecord (notAt stops lo hi)) out₁ (conclusion-long (notAt stops lo hi)) ∙ premises-length (keep (marked f₃) (pairsBelow n)) at out r out₁ (a .premises);
-          sized = a .sized ∙ s .same ∙ o .after .same ∙ o .before .same;
-        }
-      where
-        conclusion-long : (k : Conclusion) → length (conclusionRecord k) ≡ 8
-        conclusion-long k = let q = conclusionRecord-kind k in ap length (q .is) ∙ record-length (q .kind) (q .of)
+  -- the last clause: the premises of its outer stretches, and then its conclusion
+  pub last-put : (n at r : ℕ) (found found′ : List Bool) (out out₁ out₂ : List ℕ) → PremisesPut arrays n stops edges lo hi hops at found out r found′ out₁ → out₂ ≡ putRecord r (conclusionRecord (notAt stops lo hi)) out₁ → LastPut arrays n stops edges lo hi hops at found out (r + 1) found′ out₂
+  last-put n at r found found′ out out₁ out₂ y e₂ =
+      record {
+        written = λ ts ls table G d before after ob oa tb ta qs f. let z = y .written ts ls table G d before after ob oa tb ta qs f in (subst (λ (rs : List (List ℕ)). RecordsPut rs at out (r + 1) out₂) (sym (records-clause (record { premises = ascending n qs; conclusion = notAt stops lo hi }))) (subst (λ (o : List ℕ). RecordsPut (map (clauseRecord 1) (ascending n qs) ++ (conclusionRecord (notAt stops lo hi) ∷ [])) at out (r + 1) o) (sym e₂) (records-more (map (clauseRecord 1) (ascending n qs)) (conclusionRecord (notAt stops lo hi)) at out r out₁ (z .0))), z .1);
+        same = ap length e₂ ∙ put-length r (conclusionRecord (notAt stops lo hi)) out₁ (conclusion-long (notAt stops lo hi)) ∙ y .same;
+        sized = y .sized;
+      }
+    where
+      conclusion-long : (k : Conclusion) → length (conclusionRecord k) ≡ 8
+      conclusion-long k = let q = conclusionRecord-kind k in ap length (q .is) ∙ record-length (q .kind) (q .of)

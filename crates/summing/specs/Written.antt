@@ -1,6 +1,6 @@
 -- The clauses of a summary as the code writes them: for each pair that is concluded, the premises of the path between its ends, and the pair.
 use mathlib.Core.Bool.{Bool, true, false, cond}
-use mathlib.Core.List.{List, flatMap, List·Memᴰ}
+use mathlib.Core.List.{List, map, flatMap, List·Memᴰ}
 use mathlib.Core.Logic.{_⊎_, _↔_}
 use mathlib.Core.Path.{_≡_}
 use Prim.Native.Nat.{ℕ, _+_, _*_, _≤_, _<_}
@@ -16,7 +16,7 @@ use Rattle.closure.specs.Graph.{Graph, Hop, Path, joined, path}
 use Rattle.closure.specs.Walks.{HopOf}
 use Rattle.clauses.specs.Clauses.{between, Clause, Conclusion, equals, differs, falsum}
 use Rattle.clauses.specs.Premises.{premises, Premise}
-use Rattle.clauses.specs.Records.{ascending, recordsOf, clauseRecords}
+use Rattle.clauses.specs.Records.{ascending, clauseRecord, recordsOf, clauseRecords}
 use Rattle.clauses.specs.Reading.{readBetween}
 use Rattle.graphs.specs.declared.paths.Trail.{Trail}
 use Rattle.graphs.specs.Trails.{Joining, TrailOf}
@@ -102,6 +102,13 @@ pub record Concluding (arrays : Drawing) (stops edges : List ℕ) (lo hi hops : 
 -- "not [middle]", off the trail
 unfoldable pub notAt : List ℕ → ℕ → ℕ → Conclusion
 notAt stops lo hi = cond (ltb lo hi) (differs (between (getD stops lo 0) (getD stops hi 0))) falsum
+
+-- the premises of the stretches before place lo and from place hi on are written; where they are of terms below n, none is left marked
+pub record PremisesPut (arrays : Drawing) (n : ℕ) (stops edges : List ℕ) (lo hi hops at : ℕ) (found : List Bool) (out : List ℕ) (r : ℕ) (found′ : List Bool) (out′ : List ℕ) : Type 0 where
+  pub few : r ≤ at + 261121
+  pub same : length out′ ≡ length out
+  pub sized : length found′ ≡ length found
+  pub written : (ts : List Term) (ls : List Literal) (table : List Term) (G : Graph) → Drawn arrays ts ls table G → (before after : Path) → Over G before → Over G after → Trailed (arrays .inb) stops edges lo 0 before → Trailed (arrays .inb) stops edges hops hi after → (qs : List Pair) → ((p : Pair) → List·Memᴰ p qs ↔ (Premise table p before ⊎ Premise table p after)) → RecordsPut (map (clauseRecord 1) (ascending n qs)) at out r out′ × (((p : Pair) → List·Memᴰ p qs → p .right < n) → Clear found′)
 
 -- the last clause is written: the premises of the outer stretches, and "not [middle]"; where those are of terms below n, none is left marked
 pub record LastPut (arrays : Drawing) (n : ℕ) (stops edges : List ℕ) (lo hi hops at : ℕ) (found : List Bool) (out : List ℕ) (r : ℕ) (found′ : List Bool) (out′ : List ℕ) : Type 0 where

@@ -1,8 +1,7 @@
 // Clauses as records: the premises of each, and then its conclusion, in ascending order.
+use super::premises::outer_premises;
 use super::writing;
 use graphs::paths::path;
-use marking::marks::want_along;
-use marking::settling::settle;
 ghost use mathlib.Core.List.{_∷_, []};
 ghost use mathlib.Core.Path.{_≡_};
 ghost use Prim.Native.Nat.{_+_, _*_, _^_, _≤_, _<_};
@@ -13,7 +12,7 @@ ghost use Rattle.marking.specs.Drawn.{drawing};
 ghost use Rattle.summing.specs.Writing.{marked, rowPairs};
 ghost use Rattle.summing.specs.Written.{Blank, ReadableSome, ClausesPut};
 
-// One clause: the premises of the path between u and v, and then the pair itself.
+// One clause: the premises of the path between u and v, all of which stands before its end, and then the pair itself.
 fn clause_out<'a>(
     toward: &'a [u16; 511],
     by: &'a [u16; 511],
@@ -36,23 +35,7 @@ fn clause_out<'a>(
 {
     let t = path(toward, by, rank, u, v);
     let hops = t.hops;
-    let rows = &mut [false; 511];
-    let inside = &mut [false; 510];
-    let under = &mut [false; 510];
-    want_along(
-        inb,
-        &t.stops,
-        &t.edges,
-        0,
-        hops,
-        true,
-        true,
-        found,
-        rows,
-        inside,
-        under,
-    );
-    settle(
+    let n = outer_premises(
         toward,
         by,
         rank,
@@ -60,13 +43,16 @@ fn clause_out<'a>(
         places,
         parents,
         count,
-        true,
+        vertices,
+        &t.stops,
+        &t.edges,
+        hops,
+        hops,
+        hops,
         found,
-        rows,
-        inside,
-        under,
+        out,
+        at,
     );
-    let n = writing::premises_out(found, rows, vertices, out, at);
     writing::put(out, n, 2, u, v);
     n + 1
 }

@@ -1,7 +1,6 @@
 // The last clause of a disequality in A: the outer premises imply not [middle].
+use super::premises::outer_premises;
 use super::writing;
-use marking::marks::want_outer;
-use marking::settling::settle;
 ghost use mathlib.Core.Path.{_≡_};
 ghost use Prim.Native.Nat.{_+_, _^_, _≤_, _<_};
 ghost use lib.ListN.{length};
@@ -53,23 +52,7 @@ pub fn last_out<'a, 'b>(
     requires { ⌜ RowsOf (length (now found)) (now stops) hops × Blank vertices (now found) ⌝ }
     ensures { λ r. ⌜ LastPut (drawing (now (toward .entry)) (now (by .entry)) (now (rank .entry)) (now (inb .entry)) (now (places .entry)) (now (parents .entry)) count) vertices (now (stops .entry)) (now (edges .entry)) lo hi hops at (now (found .entry)) (now (out .entry)) r (now (found .exit)) (now (out .exit)) ⌝ }
 {
-    let rows = &mut [false; 511];
-    let inside = &mut [false; 510];
-    let under = &mut [false; 510];
-    want_outer(
-        inb,
-        stops,
-        edges,
-        lo,
-        hi,
-        hops,
-        true,
-        found,
-        rows,
-        inside,
-        under,
-    );
-    settle(
+    let n = outer_premises(
         toward,
         by,
         rank,
@@ -77,13 +60,16 @@ pub fn last_out<'a, 'b>(
         places,
         parents,
         count,
-        true,
+        vertices,
+        stops,
+        edges,
+        hops,
+        lo,
+        hi,
         found,
-        rows,
-        inside,
-        under,
+        out,
+        at,
     );
-    let n = writing::premises_out(found, rows, vertices, out, at);
     put_last(stops, lo, hi, out, n);
     n + 1
 }

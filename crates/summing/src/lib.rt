@@ -2,6 +2,7 @@
 
 mod clause;
 mod last;
+mod premises;
 mod readings;
 mod stretches;
 pub mod summary;

@@ -1,9 +1,8 @@
--- `clause_out` meets its contract: the premises of the path between u and v are marked, written and cleared; then the pair is written.
-use mathlib.Core.Bool.{false}
+-- `clause_out` meets its contract: the premises of the path between u and v are written, and then the pair.
 use mathlib.Core.List.{List}
 use mathlib.Core.Path.{_≡_, refl}
+use native.Mathlib.Nat.{le-refl}
 use native.Mathlib.Omega.{arith}
-use lib.ListN.{replicate, length-replicate}
 use Rattle.tables.specs.Words.{pair}
 use Rattle.tables.specs.Terms.{Term}
 use Rattle.tables.specs.LiteralTable.{Literal}
@@ -13,7 +12,7 @@ use Rattle.graphs.specs.Trails.{Joining, TrailOf}
 use Rattle.marking.specs.Drawn.{drawing}
 use Rattle.marking.proofs.Owing.{PathRead, joins, path-read, path-rows}
 use Rattle.summing.specs.Written.{Readable}
-use Rattle.summing.proofs.ClausesOut.{none-covered, clause-put}
+use Rattle.summing.proofs.ClausesOut.{clause-put}
 use borrow.Author.Needs.{needs}
 use Rattle.summing.proofs.clause.clause_out.Statement.{statement}
 use Rattle.summing.proofs.clause.clause_out.Tie as tie
@@ -32,30 +31,19 @@ path-here c r given ts ls table G x =
     let j = x .connected _ (p .0, p .1) refl in
     path-read _ _ _ _ _ (x .drawn) (c .args .u) (c .args .v) (omega (arith, p .0, p .1, x .terms)) j r (given G (joins _ _ _ _ _ (x .drawn) j))
 
-want-along-requires : tie.Need-want-along-requires
-want-along-requires c κs =
-    let s = c .before .before .before .before .before .before .before .before .before .before .before .before .before .pre .0 in
-    let g = path-here (c .before .before .before .before .before .before .before .before .before .before .before .before .before) (c .before .before .before .before .before .before .before .before .before .before .path .result) (c .before .before .before .before .before .before .before .before .before .before .path .ensures) (s .0) (s .1) (s .2) (s .3) (s .4) in
-    (g .within, (path-rows _ _ _ _ _ (s .4 .drawn) _ (omega (arith, s .4 .terms, c .before .before .before .before .before .before .before .before .before .before .before .before .before .pre .1 .1 .rows)) g, record { rows-sized = length-replicate 511 false; inside-sized = length-replicate 510 false; under-sized = length-replicate 510 false }))
-
-settle-requires : tie.Need-settle-requires
-settle-requires c κs =
-    let s = c .before .before .before .before .before .before .before .before .before .before .before .before .before .before .before .before .before .before .pre .0 in
-    let w = c .before .before .before .before .want-along .ensures in
-    ((s .0, s .1, s .2, s .3, s .4 .drawn, omega (arith, s .4 .terms, c .before .before .before .before .before .before .before .before .before .before .before .before .before .before .before .before .before .before .pre .1 .1 .rows, w .same)), w .in-order)
-
-premises-out-requires : tie.Need-premises-out-requires
-premises-out-requires c κs =
-    let p = c .before .before .before .before .before .before .before .before .before .before .before .before .before .before .before .before .before .before .before .before .before .before .before .before .pre .1 in
-    let w = c .before .before .before .before .before .before .before .before .before .before .want-along .ensures in
-    let q = c .before .before .before .before .before .settle .ensures in
-    ((p .0 .2, omega (arith, p .0 .3)), (omega (arith, p .1 .rows, w .same, q .same), q .cover (w .cover (none-covered (c .before .before .before .before .before .before .before .before .before .before .before .before .before .before .before .before .before .before .before .before .before .before .before .before .args .found .now) (p .1 .clear) (replicate 511 false)))))
+outer-premises-requires : tie.Need-outer-premises-requires
+outer-premises-requires c κs =
+    let p = c .before .before .before .before .before .before .before .before .pre in
+    let s = p .0 in
+    let t = c .before .before .before .before .before .path in
+    let g = path-here (c .before .before .before .before .before .before .before .before) (t .result) (t .ensures) (s .0) (s .1) (s .2) (s .3) (s .4) in
+    ((s .0, s .1, s .2, s .3, s .4 .drawn, omega (arith, s .4 .terms, p .1 .1 .rows)), ((g .within, le-refl _, le-refl _, p .1 .0 .2, p .1 .0 .3), (path-rows _ _ _ _ _ (s .4 .drawn) _ (omega (arith, s .4 .terms, p .1 .1 .rows)) g, p .1 .1)))
 
 put-requires : tie.Need-put-requires
-put-requires c κs = omega (arith, c .before .before .before .before .before .premises-out .ensures .few, c .before .before .before .before .before .before .before .before .before .before .before .before .before .before .before .before .before .before .before .before .before .before .before .before .before .before .before .before .before .before .pre .1 .0 .3)
+put-requires c κs = omega (arith, c .before .before .before .before .before .outer-premises .ensures .few, c .before .before .before .before .before .before .before .before .before .before .before .before .before .before .pre .1 .0 .3)
 
 add-result : tie.Need-add-result
-add-result c = omega (arith, c .before .before .before .before .before .before .before .before .premises-out .ensures .few, c .before .before .before .before .before .before .before .before .before .before .before .before .before .before .before .before .before .before .before .before .before .before .before .before .before .before .before .before .before .before .before .before .before .pre .1 .0 .3)
+add-result c = omega (arith, c .before .before .before .before .before .before .before .before .outer-premises .ensures .few, c .before .before .before .before .before .before .before .before .before .before .before .before .before .before .before .before .before .pre .1 .0 .3)
 
 same-length : tie.Need-same-length
 same-length c = search needs
@@ -65,20 +53,11 @@ same-length-2 c = search needs
 
 returns : tie.Need-returns
 returns c =
-    let p = c .before .before .before .before .before .before .before .before .before .before .before .before .before .before .before .before .before .before .before .before .before .before .before .before .before .before .before .before .before .before .before .before .before .pre in
-    let t = c .before .before .before .before .before .before .before .before .before .before .before .before .before .before .before .before .before .before .before .before .before .before .before .before .before .before .before .before .before .before .path in
-    clause-put _ _ _ _ (p .1 .0 .0) (p .1 .0 .1) (p .1 .0 .2) (p .0) (t .result .stops) (t .result .edges) (t .result .hops) (λ ts ls table G x. path-here (c .before .before .before .before .before .before .before .before .before .before .before .before .before .before .before .before .before .before .before .before .before .before .before .before .before .before .before .before .before .before .before .before .before) (t .result) (t .ensures) ts ls table G x .trailed) _ _ _ _ _ _ _ _ _ _ _ _ _ _ _ (p .1 .1 .clear) (c .before .before .before .before .before .before .before .before .before .before .before .before .before .before .before .before .before .before .before .want-along .ensures) (c .before .before .before .before .before .before .before .before .before .before .before .before .before .before .settle .ensures) (c .before .before .before .before .before .before .before .before .premises-out .ensures) _ (c .before .before .put .ensures)
+    let p = c .before .before .before .before .before .before .before .before .before .before .before .before .before .before .before .before .before .pre in
+    let t = c .before .before .before .before .before .before .before .before .before .before .before .before .before .before .path in
+    clause-put _ _ _ _ (p .1 .0 .0) (p .1 .0 .1) _ _ _ (λ ts ls table G x. path-here (c .before .before .before .before .before .before .before .before .before .before .before .before .before .before .before .before .before) (t .result) (t .ensures) ts ls table G x .trailed) _ _ _ _ _ _ (c .before .before .before .before .before .before .before .before .outer-premises .ensures) (p .0) _ (c .before .before .put .ensures)
 
 pub clause-out-spec : {M : Type 1} → statement M
 clause-out-spec =
     tie.close
-    (tie.spec
-    path-requires
-    want-along-requires
-    settle-requires
-    premises-out-requires
-    put-requires
-    add-result
-    same-length
-    same-length-2
-    returns)
+    (tie.spec path-requires outer-premises-requires put-requires add-result same-length same-length-2 returns)
