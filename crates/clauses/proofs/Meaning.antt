@@ -1,6 +1,5 @@
 -- The lists of premises and of path clauses hold exactly what 01's sentences say, as soon as there are enough turns.
-use mathlib.Core.Bool.{Bool}
-use mathlib.Core.List.{List, _++_, List·Memᴰ, List·Memᴰ·head, Memᴰ·append-left, Memᴰ·append-right}
+use mathlib.Core.List.{List, List·Memᴰ, List·Memᴰ·head}
 use mathlib.Core.Logic.{_↔_}
 use mathlib.Core.Path.{_≡_, refl, sym, ap, subst}
 use Prim.Native.Nat.{ℕ, zero, suc, _<_}
@@ -16,9 +15,7 @@ use Rattle.closure.proofs.Walking.Parents.{path-hop, parent-hop}
 use Rattle.clauses.specs.Clauses.{Clause}
 use Rattle.clauses.specs.Factors.{Factor, factors}
 use Rattle.clauses.specs.Premises.{premises, pathClauses, Premise, own, parent, ListsPremises, PathClause, inside, whole, under}
-use Rattle.clauses.specs.Reading.{Stretches}
 use Rattle.clauses.proofs.Factors.{factors-stretch, factor-hop}
-use Rattle.clauses.proofs.Stretches.{Divided}
 use Rattle.clauses.proofs.Members.{factorClause, edgePremises, PremiseAt, own-at, parent-at, ClauseAt, inside-at, whole-at, under-at, premise-at, at-premise, clause-at, at-clause, edge-premise, premise-edge, no-premise, no-clause}
 
 -- d turns are enough for a path: fewer edges than that are older than each of its hops
@@ -103,9 +100,3 @@ module _ (table : List Term) where
       let way = path (h .older) (p .left) (p .right) in
       let r = clause-listed d c (older-enough d π enough k n way (λ g m. path-hop (h .older) (p .left) (p .right) m)) y in
       (r .0, at-clause table d (r .0) π (under-at k e n o (premise-listed d p (parent-enough d π enough k n o) x) (r .1)), r .2, r .3)
-
--- the hops of each stretch are hops of the path, so what is enough for the path is enough for its stretches
-pub stretches-enough : (d : ℕ) (inB : ℕ → Bool) (G : Graph) (u v : ℕ) (π : Path) (z : Stretches) → Divided inB G u v π z → Enough d π → Enough d (z .before) × Enough d (z .middle) × Enough d (z .after)
-stretches-enough d inB G u v π z div enough =
-    let back : (h : Hop) → List·Memᴰ h (z .before ++ (z .middle ++ z .after)) → length (h .older) < d = λ h m. enough h (subst (λ (ρ : Path). List·Memᴰ h ρ) (div .whole) m) in
-    (λ h m. back h (Memᴰ·append-left (z .middle ++ z .after) m), λ h m. back h (Memᴰ·append-right (z .before) (Memᴰ·append-left (z .after) m)), λ h m. back h (Memᴰ·append-right (z .before) (Memᴰ·append-right (z .middle) m)))

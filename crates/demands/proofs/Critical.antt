@@ -6,13 +6,23 @@ use mathlib.Core.Path.{_≡_, refl, sym, subst}
 use Prim.Native.Nat.{ℕ}
 use lib.Dec.{T}
 use lib.ListN.{length}
-use Rattle.tables.specs.Words.{First}
+use Rattle.tables.specs.Words.{First, firstBelow}
 use Rattle.tables.specs.LiteralTable.{Kind, equal, different, isEqual, Literal}
 use Rattle.tables.specs.declared.Side.the-variants.{A}
 use Rattle.tables.proofs.Words.{and-left, and-right, and-both, getD-mem, mem-getD, firstBelow-some, firstBelow-none}
 use Rattle.closure.specs.Graph.{Graph, joined}
 use Rattle.closure.proofs.Entailing.Classes.{Apart}
 use Rattle.clauses.specs.Reading.{literalAt, contradicted, critical}
+
+-- the test of a record
+pub contradicted-by : (ls : List Literal) (G : Graph) (i : ℕ) → contradicted ls G i ≡ (not (isEqual (literalAt ls i .kind)) && joined G (literalAt ls i .left) (literalAt ls i .right))
+unfolding contradicted
+contradicted-by ls G i = refl
+
+-- the critical disequality is the first that meets it
+pub critical-by : (ls : List Literal) (G : Graph) → critical ls G ≡ firstBelow (contradicted ls G) (length ls)
+unfolding critical
+critical-by ls G = refl
 
 -- a record of kind 2 whose sides are joined
 pub record Critical (ls : List Literal) (G : Graph) (l : Literal) : Type 0 where

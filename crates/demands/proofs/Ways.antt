@@ -19,7 +19,8 @@ use Rattle.tables.proofs.Sound.{sound, lower-arguments, sides-within, refused-n
 use Rattle.closure.specs.Steps.{State, tableOf}
 use Rattle.closure.specs.OwnRun.{ownRun}
 use Rattle.closure.proofs.Running.OwnRun.{own-run-never-stuck}
-use Rattle.clauses.specs.Reading.{literalAt, critical, summary}
+use Rattle.clauses.specs.Reading.{literalAt, critical, summary, readBetween}
+use Rattle.clauses.specs.Records.{clauseRecords}
 use Rattle.clauses.proofs.Records.{clauseBytes-length}
 use Rattle.demands.proofs.AddedTerms.{addedBytes-length}
 use Rattle.demands.proofs.Partition.{partition-length}
@@ -248,3 +249,8 @@ module _ (terms literals : List ℕ) (bs : Buffers) where
       ap (λ (b : Bool). cond b (refused bs 7 1) (withAdded st d) .answer) room ∙
       ap (λ (b : Bool). cond b (refused bs 7 2) (withBoth st d) .answer) (passed (ltb (length (bs .clauses)) (length (clauseBytesOf (termsOf terms) (literalsOf literals) st d))) short) ∙
       ap₂ Refused (sym q) (sym z)
+
+-- the clause records of a disequality are those of the clauses read between its sides
+pub records-read : (ts : List Term) (ls : List Literal) (st : State) (l : Literal) → recordsIn ts ls st l ≡ clauseRecords (length (tableOf ts st)) (readBetween ts ls (tableOf ts st) (st .graph) (l .side) (l .left) (l .right))
+unfolding recordsIn summary
+records-read ts ls st l = refl

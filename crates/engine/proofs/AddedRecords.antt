@@ -12,8 +12,6 @@ use Rattle.tables.proofs.Words.{below-mem}
 use Rattle.tables.proofs.WordBytes.{getD-below}
 use Rattle.closure.specs.Steps.{tableOf}
 use Rattle.running.specs.Shown.{padded}
-use Rattle.running.specs.Keys.{noRow}
-use Rattle.running.specs.declared.Row.{Row}
 use Rattle.running.specs.declared.state.State.{State as Arrays}
 use Rattle.running.proofs.Showing.{shown-symbol, shown-arity, shown-row}
 use Rattle.demands.specs.Buffers.{termBytes}

@@ -5,7 +5,7 @@ use mathlib.Core.Path.{_≡_, refl, sym, ap, subst, _∙_}
 use Prim.Native.Nat.{ℕ, _<_}
 use native.Mathlib.Omega.{arith}
 use lib.Dec.{T, eqb, leb}
-use lib.ListN.{length, getD, drop}
+use lib.ListN.{getD, drop}
 use Rattle.tables.specs.Terms.{Term}
 use Rattle.tables.specs.LiteralTable.{Literal, literalCount, literalRecord}
 use Rattle.tables.specs.declared.Side.the-variants.{A, B}
@@ -31,14 +31,14 @@ use Rattle.running.proofs.Showing.{shown-colour}
 use Rattle.marking.specs.Drawn.{PartsAt, Drawing, Drawn, drawing}
 use Rattle.marking.proofs.Owing.{Numbered, numbered}
 use Rattle.clauses.specs.Clauses.{Clause}
-use Rattle.clauses.specs.Reading.{literalAt, summary, readBetween}
+use Rattle.clauses.specs.Reading.{literalAt, readBetween}
 use Rattle.clauses.specs.Records.{clauseRecords}
 use Rattle.summing.specs.Written.{Asking, AllPut, sideOf}
 use Rattle.clauses.proofs.Records.{clauseBytes, clauseBytes-length}
 use Rattle.summing.proofs.Summing.{records-written}
 use Rattle.marking.specs.declared.edges.Columns.{Columns}
 use Rattle.demands.specs.Buffers.{writtenOver}
-use Rattle.demands.specs.Call.{recordsIn}
+use Rattle.demands.proofs.Ways.{records-read}
 use Rattle.engine.specs.Ending.{Ends, Decides, termsIn, literalsIn, recordsFor, Written, EndsIn, PlacesOf, ParentsOf}
 use Rattle.demands.proofs.Critical.{critical-found, critical-first}
 use Rattle.engine.proofs.AddedRecords.{all-terms}
@@ -160,10 +160,9 @@ module _ (t : Tables) (s : Arrays) (d : ℕ) (w : Decides t s d) where
 
     -- is what the definitions read
     records-same : clauseRecords (s .terms) clauses ≡ recordsFor w
-    unfolding recordsIn summary
     records-same =
         let side = side-of (eqb (f .side) 1) ∙ ap (λ (x : Fields). cond (eqb (x .side) 1) A B) read-of ∙ side-is (from .terms) (from .literals) (from .sound) d within in
-        λ i. clauseRecords (w .ends .shows .terms i) (readBetween ts ls table G (side i) (left-read i) (right-read i))
+        (λ i. clauseRecords (w .ends .shows .terms i) (readBetween ts ls table G (side i) (left-read i) (right-read i))) ∙ sym (records-read ts ls (w .ends .state) (literalAt ls d))
 
     -- so they are counted, and written where they have room
     pub written-of : (out : List ℕ) (r : ℕ) (out′ : List ℕ) → AllPut (clauseRecords (s .terms) (readBetween ts ls table G (sideOf (eqb (f .side) 1)) (f .left) (f .right))) out r out′ → Written (recordsFor w) out r out′

@@ -23,7 +23,9 @@ use Rattle.running.specs.declared.state.State.{State as Arrays}
 use Rattle.running.proofs.Beginning.{sound-tables, read-sound, terms-are, terms-fit}
 use Rattle.running.proofs.BasicSteps.{length-literals, left-is, right-is, kind-is, sides-small}
 use Rattle.running.proofs.Showing.{shown-label}
-use Rattle.clauses.specs.Reading.{contradicted, critical}
+use Rattle.closure.proofs.Walking.Joined.{joined-by}
+use Rattle.clauses.specs.Reading.{literalAt, contradicted, critical}
+use Rattle.demands.proofs.Critical.{contradicted-by, critical-by}
 use Rattle.demands.specs.Buffers.{classNumber, partitionBytes}
 use Rattle.engine.proofs.Writing.{flatMap-agree}
 use Rattle.engine.specs.Ending.{Ends, termsIn, literalsIn, metBy, classBy}
@@ -47,7 +49,6 @@ module _ (t : Tables) (s : Arrays) (w : Ends t s) where
 
   -- the test that the code makes of a record is whether it is contradicted
   met-is : (i : ℕ) → i < literalCount ls → metBy ls (s .labels) i ≡ contradicted (literalsIn (w .from)) (w .state .graph) i
-  unfolding contradicted joined
   met-is i h =
       let G = w .state .graph in
       let f = fieldsOf (literalRecord ls i) in
@@ -55,15 +56,17 @@ module _ (t : Tables) (s : Arrays) (w : Ends t s) where
       ap₂ (λ (x y : Bool). x && y) (ap not (kind-is bs ls (w .from .sound) i h))
       (ap₂ eqb
       (label-in (f .left) (omega (arith, small .0)) ∙ ap (label G) (left-is bs ls (w .from .sound) i h))
-      (label-in (f .right) (omega (arith, small .1)) ∙ ap (label G) (right-is bs ls (w .from .sound) i h)))
+      (label-in (f .right) (omega (arith, small .1)) ∙ ap (label G) (right-is bs ls (w .from .sound) i h)) ∙
+      sym (joined-by G (literalAt (literalsIn (w .from)) i .left) (literalAt (literalsIn (w .from)) i .right))) ∙
+      sym (contradicted-by (literalsIn (w .from)) G i)
 
   -- so the first record of the literals that are lent which meets the test is the critical one
   pub met-first : (literals : List ℕ) → ls ≡ literals → firstBelow (metBy literals (s .labels)) (literalCount literals) ≡ critical (literalsIn (w .from)) (w .state .graph)
-  unfolding critical
   met-first literals e =
       ap (λ (x : List ℕ). firstBelow (metBy x (s .labels)) (literalCount x)) (sym e) ∙
       firstBelow-agree (metBy ls (s .labels)) (contradicted (literalsIn (w .from)) (w .state .graph)) (literalCount ls) met-is ∙
-      ap (firstBelow (contradicted (literalsIn (w .from)) (w .state .graph))) (sym (length-literals bs ls (w .from .sound)))
+      ap (firstBelow (contradicted (literalsIn (w .from)) (w .state .graph))) (sym (length-literals bs ls (w .from .sound))) ∙
+      sym (critical-by (literalsIn (w .from)) (w .state .graph))
 
 -- ---- class numbers
 
@@ -98,7 +101,7 @@ module _ (t : Tables) (s : Arrays) (w : Ends t s) where
 
   -- so the class number by the arrays is that of the definitions
   pub class-is : (k : ℕ) → k < t .terms → classBy (t .used) (s .labels) (t .terms) k ≡ classNumber (termsIn (w .from)) (literalsIn (w .from)) (w .state .graph) k
-  unfolding classBy classNumber joined
+  unfolding classBy classNumber
   class-is k h =
       let ts = termsIn (w .from) in
       let ls = literalsIn (w .from) in
@@ -106,7 +109,7 @@ module _ (t : Tables) (s : Arrays) (w : Ends t s) where
       let few = terms-fit t (w .from) in
       ap₂ (λ (b : Bool) (o : Option ℕ). cond b (Option·getD o 65535) 65535) (used-in k h)
       (firstBelow-agree (alike (t .used) (s .labels) k) (λ u. inUse ts ls u && joined G u k) (t .terms)
-      (λ u l. ap₂ (λ (x y : Bool). x && y) (used-in u l) (ap₂ eqb (label-in t s w u (omega arith)) (label-in t s w k (omega arith)))) ∙
+      (λ u l. ap₂ (λ (x y : Bool). x && y) (used-in u l) (ap₂ eqb (label-in t s w u (omega arith)) (label-in t s w k (omega arith)) ∙ sym (joined-by G u k))) ∙
       ap (firstBelow (λ u. inUse ts ls u && joined G u k)) count-is)
 
   -- and the words of all class numbers are the bytes of the partition

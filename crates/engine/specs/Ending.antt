@@ -14,7 +14,7 @@ use Rattle.tables.specs.LiteralTable.{Literal, literalCount, literalRecord, lit
 use Rattle.tables.specs.declared.Tables.{Tables}
 use Rattle.reading.specs.Fields.{fieldsOf}
 use Rattle.reading.specs.declared.literal.Fields.{Fields}
-use Rattle.closure.specs.Steps.{State, tableOf}
+use Rattle.closure.specs.Steps.{State}
 use Rattle.closure.specs.OwnRun.{ownRun}
 use Rattle.running.specs.Shown.{Shows}
 use Rattle.running.specs.Keys.{noRow}

@@ -1,7 +1,7 @@
 // The parent paths of marked edges, read from the newest edge to the oldest: parent paths have older edges only, so one pass is enough.
 use super::marks;
 use graphs::paths;
-ghost use mathlib.Core.Bool.{Bool, _&&_, _||_};
+ghost use mathlib.Core.Bool.{_&&_, _||_};
 ghost use mathlib.Core.Path.{_≡_};
 ghost use Prim.Native.Nat.{_<_};
 ghost use lib.ListN.{length};

@@ -27,11 +27,10 @@ use Rattle.running.specs.Stepping.{Choosing, ChoiceOf, Placing, OnRun, A
 use Rattle.running.specs.declared.Row.{Row}
 use Rattle.running.specs.declared.state.State.{State as Arrays}
 use Rattle.running.specs.declared.step.Choice.{Choice}
-use Rattle.closure.proofs.Walking.Invariant.{SoundEdge, Unjoined}
 use Rattle.running.proofs.Agreeing.{joined-labels}
 use Rattle.closure.proofs.Running.Congruent.{congruent-arguments}
 use Rattle.closure.proofs.Running.Larger.{extends-term}
-use Rattle.closure.proofs.Walking.ParentPaths.{each-map}
+use Rattle.closure.proofs.Walking.ParentPaths.{each-map, sound-forest}
 use Rattle.closure.proofs.Running.Vertices.{EndsAmong, added-vertex, vertex-within, chosen-joined}
 use Rattle.closure.proofs.Running.States.{SoundState, given-first}
 use Rattle.closure.proofs.Running.Runs.{middle-ends, run-sound, run-known}
@@ -96,7 +95,7 @@ module _ {a : Arrays} (run : OnRun a) where
 
   -- the graph has no cycle
   pub on-run-forest : Forest (st .graph)
-  on-run-forest = each-map (SoundEdge ts ls table) Unjoined (λ G e p. p .unjoined) (st .graph) (on-run-sound .edges)
+  on-run-forest = sound-forest ts ls table (st .graph) (on-run-sound .edges)
 
   -- its ends are terms of the table
   pub on-run-ends : EndsBelow (length table) (st .graph)

@@ -1,22 +1,21 @@
 -- The turns of the library's own run as the code takes them: the arrays go on showing the state of a run, and the turns left come to the same end.
-use mathlib.Core.Bool.{true, false, not}
+use mathlib.Core.Bool.{true, false}
 use mathlib.Core.List.{List, []}
 use mathlib.Core.Logic.{_⊎_, inl, inr, ⊎-elim}
 use mathlib.Core.Option.{Option, some, none}
 use mathlib.Core.Path.{_≡_, refl, sym, ap, subst, _∙_}
 use Prim.Native.Nat.{ℕ, zero, suc, _-_, _≤_, _<_}
 use native.Mathlib.Omega.{arith}
-use lib.Dec.{T, eqb, eqb→eq}
+use lib.Dec.{T}
 use lib.ListN.{length, getD, List·getD-eq-default}
 use Rattle.tables.specs.Words.{Pair, pairsBelow}
 use Rattle.tables.specs.Terms.{Term, termAt}
-use Rattle.tables.specs.TermTable.{termCount, termRecord, symbolField, arityField, otherArity, hadOtherArity, termOf, termsOf}
+use Rattle.tables.specs.TermTable.{termCount, termRecord, symbolField, arityField, termOf, termsOf}
 use Rattle.tables.specs.LiteralTable.{Literal, literalsOf}
 use Rattle.tables.specs.declared.Tables.{Tables}
-use Rattle.tables.proofs.Words.{and-both, by-test, passes, fails, some-someBelow, below-or-is, below-or-not, getD-mem, firstOf-some, pairsBelow-mem}
-use Rattle.tables.proofs.Tests.{eq-test}
+use Rattle.tables.proofs.Words.{below-or-is, below-or-not, getD-mem, firstOf-some, pairsBelow-mem}
 use Rattle.tables.proofs.Filled.{filled-behind}
-use Rattle.tables.proofs.Sound.{SoundTables, length-termsOf, termAt-termsOf, arity-small, lower-arguments, sides-within}
+use Rattle.tables.proofs.Sound.{SoundTables, length-termsOf, termAt-termsOf, arity-small, later-arity, lower-arguments, sides-within}
 use Rattle.closure.specs.Steps.{State, begin, tableOf, Step, Run, start, next}
 use Rattle.closure.specs.OwnRun.{basicSteps, derivable, firstPair, derivedStep, turnsAt, ownRun}
 use Rattle.running.specs.Shown.{padded, rowFor, Shows, halted}
@@ -161,16 +160,6 @@ module _ {first : Arrays} (run : OnRun first) (given : ℕ) where
         turn-taken o q = ⊎-elim (λ h. absurd (not-both q (h .0))) (λ h. turn-shown (h .1 .0) (h .1 .1) (h .1 .2)) o
 
 -- ---- from the tables
-
--- a symbol of sound tables has one arity, the later record second
-later-arity : (bs ls : List ℕ) → SoundTables bs ls → (j k : ℕ) → j < k → k < termCount bs → symbolField (termRecord bs j) ≡ symbolField (termRecord bs k) → arityField (termRecord bs j) ≡ arityField (termRecord bs k)
-unfolding hadOtherArity otherArity
-later-arity bs ls sound j k h l e =
-    let x = arityField (termRecord bs j) in
-    let y = arityField (termRecord bs k) in
-    let same = eqb (symbolField (termRecord bs j)) (symbolField (termRecord bs k)) in
-    by-test (eqb x y) (λ q. eqb→eq x y (passes (eqb x y) q))
-    (λ q. absurd (sound .one-arity k l (some-someBelow (otherArity bs k) k j h (and-both same (not (eqb x y)) (eq-test (symbolField (termRecord bs j)) (symbolField (termRecord bs k)) .1 e) (fails (eqb x y) q)))))
 
 module _ (t : Tables) (from : ReadFrom t) where
   -- the bytes of the terms

@@ -17,7 +17,7 @@ use Rattle.clauses.proofs.Records.{clauseBytes-length, clauseRecords-eight}
 use Rattle.marking.specs.Drawn.{Drawing}
 use Rattle.marking.specs.Marks.{PairMarked}
 use Rattle.summing.specs.Writing.{marked}
-use Rattle.summing.specs.Written.{ClausesPut, LastPut, MiddleFrom, MiddleTo, Concluding, Readable, ReadableSome, ReadingPut, RecordsPut, Clear, Asking, AskingSome, Concluded, sideOf, AllPut, Summarised}
+use Rattle.summing.specs.Written.{ClausesPut, LastPut, MiddleFrom, MiddleTo, Concluding, Readable, ReadableSome, ReadingPut, RecordsPut, Clear, Asking, Concluded, sideOf, AllPut, Summarised}
 use Rattle.summing.proofs.RecordsOut.{puts-fit}
 use Rattle.summing.proofs.Summing.{readable-A, readable-B, put-A, put-B, clear-A}
 

@@ -3,7 +3,7 @@ use mathlib.Core.Bool.{Bool, true, false, cond, not}
 use mathlib.Core.List.{List, [], _∷_, _++_, map, flatMap, append-nil, List·Memᴰ, List·Memᴰ·head, List·Memᴰ·tail, List·Memᴰ·not-nil}
 use mathlib.Core.Logic.{_⊎_, inl, inr, ⊎-elim, _↔_}
 use mathlib.Core.Path.{_≡_, refl, sym, ap, ap₂, subst, _∙_}
-use Prim.Native.Nat.{ℕ, _*_, _/_, _≤_, _<_}
+use Prim.Native.Nat.{ℕ, _*_, _≤_, _<_}
 use native.Mathlib.Omega.{arith}
 use borrow.Author.Tests.{lt-ltb, le-ltb, lt-leb, le-leb}
 use lib.Dec.{T, not-T}
@@ -31,7 +31,7 @@ use Rattle.clauses.specs.Records.{ascending, concluding, isLast, firstAlone, in
 use Rattle.marking.specs.Marks.{Reached, across, along, PairWithin, placeOf, PairMarked, RowsOf, Trailed, done, step}
 use Rattle.marking.specs.Drawn.{Drawing, DrawnSome}
 use Rattle.summing.specs.Writing.{marked}
-use Rattle.summing.specs.Written.{clauseOf, clauseOut, RecordsPut, Readable, FirstB, LastB, Concluding, notAt, LastPut, Clear, Blank, ClausesPut, Asking, AskingSome, sideOf, AllPut, Summarised}
+use Rattle.summing.specs.Written.{clauseOf, clauseOut, RecordsPut, Readable, FirstB, LastB, Concluding, notAt, LastPut, Clear, Blank, ClausesPut, Asking, AskingSome, AllPut}
 use Rattle.clauses.proofs.Pieces.{equals-kind, middle-kind, endOf-none, endOf-hop, notMiddle-none, notMiddle-hop, stretches-none, first-none, first-some, records-standing, read-B, read-A}
 use Rattle.clauses.proofs.Meaning.{path-enough}
 use Rattle.clauses.proofs.Stretches.{Divided, stretches-divided, before-is, middle-is, after-is}

@@ -5,7 +5,6 @@ use super::stretches;
 use super::writing;
 use graphs::paths;
 ghost use mathlib.Core.List.{List};
-ghost use mathlib.Core.Path.{_≡_};
 ghost use Prim.Native.Nat.{ℕ, _*_, _≤_};
 ghost use lib.ListN.{length};
 ghost use Rattle.graphs.specs.Trails.{trail};

@@ -1,6 +1,6 @@
 -- What the checks of rows 1 to 6 settle: where none refuses, the tables have the form that the layers above rest on.
 use mathlib.Core.List.{List, List·Memᴰ, Memᴰ·of-map}
-use mathlib.Core.Bool.{false}
+use mathlib.Core.Bool.{false, not}
 use mathlib.Core.Logic.{_⊎_, inl, inr, ⊎-elim}
 use mathlib.Core.Path.{_≡_, refl, sym, subst, _∙_}
 use Prim.Native.Nat.{ℕ, _%_, _≤_, _<_}
@@ -11,13 +11,13 @@ use lib.Seq.{getD-take}
 use Rattle.tables.specs.Words.{below}
 use Rattle.tables.specs.Bytes.{byteAt, wordAt}
 use Rattle.tables.specs.Terms.{Term, termAt, noTerm, LowerArguments}
-use Rattle.tables.specs.TermTable.{termCount, termRecord, arityField, argumentField, rowOf, hadOtherArity, equalsEarlier, termOf, termsOf}
+use Rattle.tables.specs.TermTable.{termCount, termRecord, symbolField, arityField, argumentField, rowOf, otherArity, hadOtherArity, equalsEarlier, termOf, termsOf}
 use Rattle.tables.specs.LiteralTable.{Literal, literalCount, literalRecord, literalOf, literalsOf}
 use Rattle.tables.specs.Checks.{checked, numberOf}
 use Rattle.tables.specs.declared.Check.{Check}
 use Rattle.tables.specs.declared.Check.the-variants.{Sound, Length, Count, Layout, Arity, Repeated, Literal as Broken}
-use Rattle.tables.proofs.Words.{decide, below-or-not, below-mem, mem-getD}
-use Rattle.tables.proofs.Tests.{ne-test}
+use Rattle.tables.proofs.Words.{decide, by-test, passes, fails, and-both, some-someBelow, below-or-not, below-mem, mem-getD}
+use Rattle.tables.proofs.Tests.{eq-test, ne-test}
 use Rattle.tables.proofs.Faults.{LayoutFault, arity-over-four, argument-not-lower, breaks-layout, LiteralFault, side-not-one-or-two, kind-not-one-or-two, left-not-in-table, right-not-in-table, breaks-literal}
 use Rattle.tables.proofs.Rows.{sound-exactly}
 use Rattle.tables.proofs.Colours.{SidesWithin}
@@ -28,7 +28,6 @@ pub record SoundTables (bs ls : List ℕ) : Type 0 where
   pub terms-whole : length bs % 16 ≡ 0
   pub literals-whole : length ls % 8 ≡ 0
   pub terms-fit : termCount bs ≤ 256
-  pub literals-fit : literalCount ls ≤ 1024
   pub layout : (k : ℕ) → k < termCount bs → LayoutFault k (termRecord bs k) → ⊥
   pub one-arity : (k : ℕ) → k < termCount bs → T (hadOtherArity bs k) → ⊥
   pub distinct : (k : ℕ) → k < termCount bs → T (equalsEarlier bs k) → ⊥
@@ -43,12 +42,21 @@ sound bs ls e =
       terms-whole = r .0 .0;
       literals-whole = r .0 .1;
       terms-fit = r .1 .0 .0;
-      literals-fit = r .1 .0 .1;
       layout = λ k h f. records .0 k h (breaks-layout bs k .1 f);
       one-arity = records .1 .0;
       distinct = records .1 .1 .0;
       literal = λ k h f. records .1 .1 .1 k h (breaks-literal (termCount bs) ls k .1 f);
     }
+
+-- a symbol of sound tables has one arity, the later record second
+pub later-arity : (bs ls : List ℕ) → SoundTables bs ls → (j k : ℕ) → j < k → k < termCount bs → symbolField (termRecord bs j) ≡ symbolField (termRecord bs k) → arityField (termRecord bs j) ≡ arityField (termRecord bs k)
+unfolding hadOtherArity otherArity
+later-arity bs ls sound j k h l e =
+    let x = arityField (termRecord bs j) in
+    let y = arityField (termRecord bs k) in
+    let same = eqb (symbolField (termRecord bs j)) (symbolField (termRecord bs k)) in
+    by-test (eqb x y) (λ q. eqb→eq x y (passes (eqb x y) q))
+    (λ q. absurd (sound .one-arity k l (some-someBelow (otherArity bs k) k j h (and-both same (not (eqb x y)) (eq-test (symbolField (termRecord bs j)) (symbolField (termRecord bs k)) .1 e) (fails (eqb x y) q)))))
 
 -- a check that is not sound has a number
 pub refused-number : (check : Check) → (check ≡ Sound → ⊥) → eqb (numberOf check) 0 ≡ false

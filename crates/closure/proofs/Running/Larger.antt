@@ -1,5 +1,5 @@
 -- What is known of terms, colours and edges stays where more terms stand behind those of the table.
-use mathlib.Core.List.{List, [], _∷_, _++_}
+use mathlib.Core.List.{List, _++_}
 use mathlib.Core.Path.{_≡_, sym, ap, subst, _∙_}
 use Prim.Native.Nat.{ℕ, _≤_, _<_}
 use native.Mathlib.Omega.{arith}
@@ -16,7 +16,7 @@ use Rattle.tables.proofs.Colours.{colourable-append}
 use Rattle.closure.specs.Graph.{Edge, EdgeKind, basic, derived, Graph, joinedPairwise}
 use Rattle.closure.specs.Steps.{congruent}
 use Rattle.closure.proofs.Running.Congruent.{congruent-symbol, congruent-arguments, congruent-made}
-use Rattle.closure.proofs.Walking.Invariant.{Each, Behind, SoundEdge, SoundGraph}
+use Rattle.closure.proofs.Walking.Invariant.{Behind, SoundEdge, SoundGraph}
 use Rattle.closure.proofs.Walking.ParentPaths.{each-map}
 
 -- ---- colours

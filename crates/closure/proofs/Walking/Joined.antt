@@ -8,6 +8,11 @@ use lib.Dec.{T, eqb, eqb→eq, eqb-refl}
 use Rattle.tables.proofs.Words.{by-test, passes, fails, and-left, and-right, and-both}
 use Rattle.closure.specs.Graph.{Edge, Graph, label, joined, joinedPairwise}
 
+-- joined is having one label
+pub joined-by : (G : Graph) (u v : ℕ) → joined G u v ≡ eqb (label G u) (label G v)
+unfolding joined
+joined-by G u v = refl
+
 pub joined-label : (G : Graph) (u v : ℕ) → T (joined G u v) → label G u ≡ label G v
 unfolding joined
 joined-label G u v h = eqb→eq (label G u) (label G v) h

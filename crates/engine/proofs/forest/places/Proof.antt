@@ -1,6 +1,5 @@
 -- `engine::forest::places` meets its contract. The invariant: the counts of the edges passed stand under their numbers. The measure is what is left of them.
 use mathlib.Core.Bool.{false, cond}
-use mathlib.Core.Path.{refl}
 use Prim.Native.Nat.{_-_, _≤_}
 use native.Mathlib.Omega.{arith}
 use lib.ListN.{getD}

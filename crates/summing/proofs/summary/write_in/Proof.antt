@@ -2,7 +2,6 @@
 use mathlib.Core.Bool.{false}
 use native.Mathlib.Omega.{arith}
 use lib.ListN.{length-replicate}
-use Rattle.summing.specs.Written.{Concluded}
 use Rattle.summing.proofs.Summing.{sides-asked, asked-drawn, sides-read, sides-rows}
 use Rattle.summing.proofs.BothSides.{from-within, to-within}
 use borrow.Author.Needs.{needs}

@@ -6,7 +6,6 @@ use native.Mathlib.Numerals.{add-one}
 use native.Mathlib.Omega.{arith}
 use lib.ListN.{length, set, getD, take, drop, length-set}
 use lib.Seq.{paste, paste-zero, paste-suc}
-use borrow.Author.Needs.{needs}
 use Rattle.summing.proofs.writing.copy.Statement.{statement}
 use Rattle.summing.proofs.writing.copy.Tie as tie
 
