@@ -3,7 +3,7 @@
 use super::Row;
 ghost use mathlib.Core.Path.{_≡_};
 ghost use Prim.Native.Nat.{_^_, _<_, _≤_};
-ghost use lib.ListN.{getD, take};
+ghost use lib.ListN.{getD, take, replicate};
 ghost use Rattle.closure.specs.Graph.{Graph, joinedPairwise};
 ghost use Rattle.graphs.specs.Layout.{labelsOf};
 ghost use Rattle.running.specs.Keys.{noRow, fieldLabel, FieldsWithin, RowsWithin, keyOf, keysOf};
@@ -53,18 +53,19 @@ pub fn key(symbol: u16, row: Row, labels: &[u16; 511]) -> u64
     symbol as u64 + 65536 * (first + 512 * (second + 512 * (third + 512 * fourth)))
 }
 
-// The keys of the given terms in use; 0, which is no key, elsewhere.
+// The keys of the given terms in use; 0, which is no key, elsewhere. They are written into an array of zeros that is lent, for one that is returned is
+// copied.
 pub fn keys(
     given: usize,
     vertices: &[bool; 511],
     symbols: &[u16; 511],
     rows: [Row; 511],
     labels: &[u16; 511],
-) -> [u64; 256]
-    requires { ⌜ (given ≤ 256) × RowsWithin rows ⌝ }
-    ensures { λ r. ⌜ r ≡ keysOf given (now (vertices .entry)) (now (symbols .entry)) rows (now (labels .entry)) ⌝ }
+    all: &mut [u64; 256],
+)
+    requires { ⌜ (given ≤ 256) × RowsWithin rows × (now all ≡ replicate 256 0) ⌝ }
+    ensures { λ _. ⌜ now (all .exit) ≡ keysOf given (now (vertices .entry)) (now (symbols .entry)) rows (now (labels .entry)) ⌝ }
 {
-    let mut all = [0u64; 256];
     let mut t = 0;
     while t < given {
         if vertices[t] {
@@ -72,5 +73,4 @@ pub fn keys(
         }
         t += 1;
     }
-    all
 }

@@ -5,7 +5,7 @@ use super::congruence;
 ghost use mathlib.Core.List.{List};
 ghost use mathlib.Core.Path.{_≡_};
 ghost use Prim.Native.Nat.{_<_, _≤_};
-ghost use lib.ListN.{length};
+ghost use lib.ListN.{length, replicate};
 ghost use Rattle.tables.specs.Terms.{Term};
 ghost use Rattle.tables.specs.LiteralTable.{Literal};
 ghost use Rattle.closure.specs.Steps.{State as Reached};
@@ -27,18 +27,17 @@ pub enum Pair {
 }
 
 // Keys that are alike have one residue, so a search among them may stop behind the last term of its residue: one more than that term's number.
-fn ends(keys: &[u64; 256], given: usize) -> [u16; 1021]
-    requires { ⌜ given ≤ 256 ⌝ }
-    ensures { λ r. ⌜ EndsOf (now (keys .entry)) given r ⌝ }
+// They are written into an array of zeros that is lent.
+fn ends(keys: &[u64; 256], given: usize, all: &mut [u16; 1021])
+    requires { ⌜ (given ≤ 256) × (now all ≡ replicate 1021 0) ⌝ }
+    ensures { λ _. ⌜ EndsOf (now (keys .entry)) given (now (all .exit)) ⌝ }
 {
-    let mut all = [0u16; 1021];
     let mut t = 0;
     while t < given {
         let residue = (keys[t] % 1021) as usize;
         t += 1;
         all[residue] = t as u16;
     }
-    all
 }
 
 // The next term from a place on that may be a partner of s: the rows are not looked at.
@@ -83,12 +82,14 @@ pub fn first_pair<'a>(
     requires { ⌜ (given ≤ 256) × Orderly rows (now arities) ⌝ }
     ensures { λ r. ⌜ ((ts : List Term) (ls : List Literal) (reached : Reached) (st : Arrays) → Shows ts ls reached (searched st (now (labels .entry)) (now (symbols .entry)) (now (vertices .entry)) (now (arities .entry)) rows) → given ≡ length ts → OneArity ts → pairOf r ≡ firstPair ts ls reached) ⌝ }
 {
-    let keys = congruence::keys(given, vertices, symbols, rows, labels);
-    let ends = ends(&keys, given);
+    let mut all = [0u64; 256];
+    congruence::keys(given, vertices, symbols, rows, labels, &mut all);
+    let mut last = [0u16; 1021];
+    ends(&all, given, &mut last);
     let mut s = 0;
     let mut from = 1;
     while s < given {
-        let found = partner(&keys, &ends, symbols, labels, given, s, from);
+        let found = partner(&all, &last, symbols, labels, given, s, from);
         if let Next::At(t) = found {
             if congruence::congruent(rows, labels, arities[s] as usize, s, t) {
                 return Pair::Of(s, t);

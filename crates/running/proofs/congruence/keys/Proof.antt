@@ -1,7 +1,7 @@
 -- `running::congruence::keys` meets its contract. The invariant: the keys of the terms passed are written. The measure is what is left of them.
 use mathlib.Core.Bool.{false, cond}
 use mathlib.Core.Logic.{⊎-elim}
-use mathlib.Core.Path.{_∙_}
+use mathlib.Core.Path.{sym, subst, _∙_}
 use Prim.Native.Nat.{_+_, _-_}
 use native.Mathlib.Omega.{arith}
 use lib.ListN.{getD}
@@ -13,14 +13,14 @@ use Rattle.running.proofs.congruence.keys.Statement.{statement}
 use Rattle.running.proofs.congruence.keys.Tie as tie
 
 abbrev Inv-loop : tie.InvT-loop
-Inv-loop given vertices symbols labels rows all₀ t₀ all t =
+Inv-loop given vertices symbols labels all₀ rows t₀ all t =
     Filling 256 0 (λ k. cond (getD vertices k false) (keyOf labels (getD symbols k 0) (getD rows k noRow .args) + 1) 0) given t all
 
 abbrev μ-loop : tie.MeasureT-loop
-μ-loop given vertices symbols labels rows all₀ t₀ all t = given - t
+μ-loop given vertices symbols labels all₀ rows t₀ all t = given - t
 
 loop-holds : tie.Need-loop-holds Inv-loop μ-loop
-loop-holds c = filling-none 256 0 _ _
+loop-holds c = subst (Filling 256 0 _ _ 0) (sym (c .pre .2)) (filling-none 256 0 _ _)
 
 element-copy-out-if1 : tie.Need-element-copy-out-if1 Inv-loop μ-loop
 element-copy-out-if1 c = omega arith
@@ -46,8 +46,8 @@ add-all c = omega arith
 mul-all : tie.Need-mul-all Inv-loop μ-loop
 mul-all c = omega arith
 
-array-write-all : tie.Need-array-write-all Inv-loop μ-loop
-array-write-all c = omega arith
+element-write-all : tie.Need-element-write-all Inv-loop μ-loop
+element-write-all c = omega arith
 
 add-t : tie.Need-add-t Inv-loop μ-loop
 add-t c = omega arith
@@ -82,7 +82,7 @@ keys-spec =
     key-requires
     add-all
     mul-all
-    array-write-all
+    element-write-all
     add-t
     loop-less
     loop-again

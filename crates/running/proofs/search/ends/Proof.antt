@@ -1,9 +1,8 @@
 -- `running::search::ends` meets its contract. The invariant: the ends of the terms passed are laid down. The measure is what is left of them.
-use mathlib.Core.Path.{_≡_, subst}
+use mathlib.Core.Path.{_≡_, sym, ap, subst, _∙_}
 use Prim.Native.Nat.{ℕ, _-_, _≤_}
 use native.Mathlib.Omega.{arith}
-use borrow.Author.Needs.{needs}
-use lib.ListN.{length, length-set}
+use lib.ListN.{length, length-set, length-replicate}
 use Rattle.running.specs.Keys.{EndsOf}
 use Rattle.running.proofs.Ends.{no-ends, ends-more}
 use Rattle.running.proofs.search.ends.Statement.{statement}
@@ -16,7 +15,7 @@ abbrev μ-loop : tie.MeasureT-loop
 μ-loop keys given all₀ t₀ all t = given - t
 
 loop-holds : tie.Need-loop-holds Inv-loop μ-loop
-loop-holds c = (omega arith, search needs, no-ends _ 1021)
+loop-holds c = (omega arith, ap length (c .pre .1) ∙ length-replicate {A = ℕ} 1021 0, subst (EndsOf _ 0) (sym (c .pre .1)) (no-ends _ 1021))
 
 mul-residue : tie.Need-mul-residue Inv-loop μ-loop
 mul-residue c = omega arith
@@ -33,8 +32,8 @@ cast-all c = omega arith
 mul-all : tie.Need-mul-all Inv-loop μ-loop
 mul-all c = omega arith
 
-array-write-all : tie.Need-array-write-all Inv-loop μ-loop
-array-write-all c = omega arith
+element-write-all : tie.Need-element-write-all Inv-loop μ-loop
+element-write-all c = omega arith
 
 loop-less : tie.Need-loop-less Inv-loop μ-loop
 loop-less c = omega arith
@@ -62,7 +61,7 @@ ends-spec =
     add-t
     cast-all
     mul-all
-    array-write-all
+    element-write-all
     loop-less
     loop-again
     returns)
