@@ -24,6 +24,7 @@ use Rattle.running.specs.Keys.{noRow}
 use Rattle.running.proofs.Showing.{shown-arity, shown-row}
 use Rattle.marking.specs.Drawn.{isDerived, parentsFor, PartsAt, EdgeAt}
 use Rattle.marking.specs.declared.edges.Columns.{Columns}
+use Rattle.marking.proofs.Owing.{places-few}
 use Rattle.engine.specs.Ending.{PlacesOf, ParentsOf, parentAt}
 use Rattle.engine.proofs.AddedRecords.{padded-at}
 
@@ -31,11 +32,6 @@ use Rattle.engine.proofs.AddedRecords.{padded-at}
 places-by : (k : EdgeKind) (n : ℕ) → cond (isDerived k) n 0 ≡ parentsFor k n
 places-by Basic n = refl
 places-by Derived n = refl
-
--- no more than them
-places-most : (k : EdgeKind) (n : ℕ) → n ≤ 4 → parentsFor k n ≤ 4
-places-most Basic n h = omega arith
-places-most Derived n h = h
 
 -- one of two ends is low where both are
 pub either-low : (b : Bool) (left right : ℕ) → left < 511 → right < 511 → cond b left right < 511
@@ -77,7 +73,7 @@ module _ (ts : List Term) (ls : List Literal) (st : State) (s : Arrays) (h : Sho
       edge-drawn G e low left right at =
           let n = length (termAt table (e .left) .arguments) in
           let count : getD places (length G) 0 ≡ parentsFor (e .kind) n = counts (length G) low ∙ ap₂ (λ (b : Bool) (v : ℕ). cond b (getD (s .arities) v 0) 0) (at .kind-at) (at .left-at) ∙ ap (λ (m : ℕ). cond (isDerived (e .kind)) m 0) (shown-arity ts ls st s h (e .left) left) ∙ places-by (e .kind) n in
-          let few : getD places (length G) 0 ≤ 4 = omega (arith, count, places-most (e .kind) n (small (e .left) left)) in
+          let few : getD places (length G) 0 ≤ 4 = omega (arith, count, places-few (e .kind) n (small (e .left) left)) in
           record {
             colour-at = at .colour-at;
             places-at = count;

@@ -106,7 +106,7 @@ abbrev pub rightAt : Drawing → ℕ → ℕ → ℕ
 rightAt arrays i k = getD (arrays .parents) (8 * i + 4 + k) 0
 
 -- no more than arguments
-places-few : (k : EdgeKind) (n : ℕ) → n ≤ 4 → parentsFor k n ≤ 4
+pub places-few : (k : EdgeKind) (n : ℕ) → n ≤ 4 → parentsFor k n ≤ 4
 places-few Basic n h = omega arith
 places-few Derived n h = h
 

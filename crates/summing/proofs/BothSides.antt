@@ -15,11 +15,11 @@ use Rattle.clauses.specs.Records.{clauseRecords}
 use Rattle.clauses.specs.Reading.{readBetween}
 use Rattle.clauses.proofs.Records.{clauseBytes-length, clauseRecords-eight}
 use Rattle.marking.specs.Drawn.{Drawing}
-use Rattle.marking.specs.Marks.{PairMarked}
+use Rattle.marking.specs.Marks.{PairMarked, Within}
 use Rattle.summing.specs.Writing.{marked}
 use Rattle.summing.specs.Written.{ClausesPut, LastPut, MiddleFrom, MiddleTo, Concluding, Readable, ReadableSome, ReadingPut, RecordsPut, Clear, Asking, Concluded, sideOf, AllPut, Summarised}
 use Rattle.summing.proofs.RecordsOut.{puts-fit}
-use Rattle.summing.proofs.Summing.{readable-A, readable-B, put-A, put-B, clear-A}
+use Rattle.summing.proofs.Summing.{sides-read, readable-A, readable-B, put-A, put-B, clear-A}
 
 -- the middle stretch lies on the trail
 pub from-within : (ina : Bool) (colours stops : List ℕ) (hops lo : ℕ) → MiddleFrom colours stops hops lo ina → lo ≤ hops
@@ -63,6 +63,13 @@ module _ (arrays : Drawing) (n : ℕ) (colours : List ℕ) (s t : ℕ) (small : 
     -- in some graph
     pub readable-some : (ina : Bool) → Concluded arrays n colours s t r lo hi pairs rows ina → ReadableSome arrays n (PairMarked pairs)
     readable-some ina w = let a = w .asking in (a .0, a .1, a .2, a .3, readable ina w (a .0) (a .1) (a .2) (a .3) (a .4))
+
+    -- the trail is within the arrays, and so is its middle stretch
+    pub reading-within : (ina : Bool) → Concluded arrays n colours s t r lo hi pairs rows ina → Within (r .stops) (r .edges) 0 (r .hops) × (lo ≤ hi) × (hi ≤ r .hops)
+    reading-within ina w =
+        let a = w .asking in
+        let on = to-within ina colours (r .stops) lo (r .hops) hi (from-within ina colours (r .stops) (r .hops) lo (w .from)) (w .to) in
+        (sides-read arrays n colours s t small r (w .given) (a .0) (a .1) (a .2) (a .3) (a .4) .within, on .0, on .1)
 
     module _ (found : List Bool) (out : List ℕ) (k : ℕ) (found′ : List Bool) (out′ : List ℕ) where
       -- what a reading puts are the records of the side's clauses

@@ -3,8 +3,8 @@ use Prim.Native.Nat.{ℕ}
 use native.Mathlib.Omega.{arith}
 use lib.ListN.{length-replicate}
 use Rattle.graphs.specs.Trails.{trail}
-use Rattle.summing.proofs.Summing.{sides-read, sides-rows}
-use Rattle.summing.proofs.BothSides.{from-within, to-within, readable-some, reading-sized, reading-clear, summary-counted, summary-copied, summary-written}
+use Rattle.summing.proofs.Summing.{sides-rows}
+use Rattle.summing.proofs.BothSides.{readable-some, reading-within, reading-sized, reading-clear, summary-counted, summary-copied, summary-written}
 use borrow.Author.Needs.{needs}
 use Rattle.summing.proofs.summary.write_records.Statement.{statement}
 use Rattle.summing.proofs.summary.write_records.Tie as tie
@@ -15,13 +15,8 @@ slice-aggregate-records-out c = search needs
 records-out-requires : tie.Need-records-out-requires
 records-out-requires c κs =
     let p = c .before .before .before .before .before .pre in
-    let small = p .1 .0 in
     let w = p .0 .3 in
-    let a = w .asking in
-    let r = c .before .before .before .before .before .args in
-    let lo = from-within (r .ina) (p .0 .0) (r .stops .now) (r .hops) (r .lo) (w .from) in
-    let to = to-within (r .ina) (p .0 .0) (r .stops .now) (r .lo) (r .hops) (r .hi) lo (w .to) in
-    (readable-some _ _ _ _ _ small _ _ _ _ _ _ w, ((small, p .1 .1, w .concluding .cover), ((sides-read _ _ _ _ _ small _ (w .given) _ _ _ _ (a .4) .within, to .0, to .1), (sides-rows _ _ _ _ _ small _ (w .given) _ (p .1 .2 .rows) a, p .1 .2))))
+    (readable-some _ _ _ _ _ (p .1 .0) _ _ _ _ _ _ w, ((p .1 .0, p .1 .1, w .concluding .cover), (reading-within _ _ _ _ _ (p .1 .0) _ _ _ _ _ _ w, (sides-rows _ _ _ _ _ (p .1 .0) _ (w .given) _ (p .1 .2 .rows) (w .asking), p .1 .2))))
 
 same-length : tie.Need-same-length
 same-length c = search needs
@@ -53,15 +48,11 @@ returns-2 c colours s t w = summary-copied _ _ _ _ _ (c .before .before .before 
 records-out-requires-2 : tie.Need-records-out-requires-2
 records-out-requires-2 c κs =
     let p = c .before .before .before .before .before .before .before .before .before .before .before .before .before .pre in
-    let small = p .1 .0 in
     let w = p .0 .3 in
-    let a = w .asking in
     let r = c .before .before .before .before .before .before .before .before .before .before .before .before .before .args in
-    let lo = from-within (r .ina) (p .0 .0) (r .stops .now) (r .hops) (r .lo) (w .from) in
-    let to = to-within (r .ina) (p .0 .0) (r .stops .now) (r .lo) (r .hops) (r .hi) lo (w .to) in
     let q = c .before .before .before .before .before .before .before .records-out .ensures in
     let sized = reading-sized (r .ina) _ _ _ (r .stops .now) (r .edges .now) (r .lo) (r .hi) (r .hops) _ _ _ _ _ q in
-    (readable-some _ _ _ _ _ small _ _ _ _ _ _ w, ((small, p .1 .1, w .concluding .cover), ((sides-read _ _ _ _ _ small _ (w .given) _ _ _ _ (a .4) .within, to .0, to .1), (sides-rows _ _ _ _ _ small _ (w .given) _ (omega (arith, sized .0, p .1 .2 .rows)) a, record { rows = omega (arith, sized .0, p .1 .2 .rows); clear = reading-clear _ _ _ _ _ small (trail (r .stops .now) (r .edges .now) (r .hops)) (r .lo) (r .hi) _ _ _ _ _ _ _ (r .ina) w q }))))
+    (readable-some _ _ _ _ _ (p .1 .0) _ _ _ _ _ _ w, ((p .1 .0, p .1 .1, w .concluding .cover), (reading-within _ _ _ _ _ (p .1 .0) _ _ _ _ _ _ w, (sides-rows _ _ _ _ _ (p .1 .0) _ (w .given) _ (omega (arith, sized .0, p .1 .2 .rows)) (w .asking), record { rows = omega (arith, sized .0, p .1 .2 .rows); clear = reading-clear _ _ _ _ _ (p .1 .0) (trail (r .stops .now) (r .edges .now) (r .hops)) (r .lo) (r .hi) _ _ _ _ _ _ _ (r .ina) w q }))))
 
 same-length-4 : tie.Need-same-length-4
 same-length-4 c = search needs
