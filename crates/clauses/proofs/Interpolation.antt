@@ -8,7 +8,8 @@ use native.Mathlib.Nat.{le-refl}
 use lib.Dec.{T}
 use lib.ListN.{length}
 use Rattle.tables.specs.Words.{Pair}
-use Rattle.tables.specs.Terms.{Term, LowerArguments, itself}
+use Rattle.tables.specs.Terms.{Term}
+use Rattle.tables.specs.Parts.{LowerArguments, itself}
 use Rattle.tables.specs.LiteralTable.{Kind, equal, different, Literal}
 use Rattle.tables.specs.declared.Side.{Side}
 use Rattle.tables.specs.declared.Side.the-variants.{A, B}

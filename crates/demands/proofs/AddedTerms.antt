@@ -6,10 +6,12 @@ use Prim.Native.Nat.{ℕ, zero, suc, _+_, _*_, _%_, _≤_, _<_}
 use native.Mathlib.Omega.{arith}
 use lib.Dec.{T, eqb, ltb, leb, not-T, ltb→lt, leb→le}
 use lib.ListN.{length, getD, take, length-append, length-map, List·getD-eq-default, List·getD-map}
-use Rattle.tables.specs.Words.{below, any, someBelow}
+use Rattle.tables.specs.Words.{below, any}
+use Rattle.tables.specs.Tests.{someBelow}
 use Rattle.tables.specs.Bytes.{recordAt, wordBytes}
 use Rattle.tables.specs.Terms.{Term, noTerm, termAt}
-use Rattle.tables.specs.TermTable.{termRecord, symbolField, arityField, argumentField, rowOf, arityWrong, spareWrong, notLower, unusedNotZero, breaksLayout, termCount, termOf, termsOf}
+use Rattle.tables.specs.TermTable.{termRecord, symbolField, arityField, argumentField, rowOf, termCount, termOf, termsOf}
+use Rattle.tables.specs.Tests.{arityWrong, spareWrong, notLower, unusedNotZero, breaksLayout}
 use Rattle.tables.proofs.Words.{and-left, and-right, failed, getD-mem, below-mem, someBelow-some}
 use Rattle.tables.proofs.Terms.{map-agree}
 use Rattle.tables.specs.Bytes.{AllBytes}

@@ -4,11 +4,15 @@ use mathlib.Core.List.{List, [], _∷_, _++_, map, flatMap, zipWith}
 use mathlib.Core.Path.{_≡_, refl}
 use Prim.Native.Nat.{ℕ}
 use Rattle.demands.specs.declared.Answer.the-variants.{Consistent, Inconsistent}
-use Rattle.demands.specs.Call.{Buffers, Returned, judged}
-use Rattle.tables.specs.Words.{below, any, every, keep, among, same, someBelow, orElse, firstBelow, firstOf, pairsBelow}
+use Rattle.demands.specs.Call.{judged}
+use Rattle.demands.specs.Buffers.{Buffers, Returned}
+use Rattle.demands.specs.Answers.{numbersOf}
+use Rattle.tables.specs.Words.{below, any, every, keep, among, same, firstOf, pairsBelow}
 use Rattle.tables.specs.Terms.{downTo, down, parts, symbols}
-use Rattle.tables.specs.TermTable.{breaksLayout, hadOtherArity, equalsEarlier, termsOf}
-use Rattle.tables.specs.LiteralTable.{breaksLiteral, literalsOf}
+use Rattle.tables.specs.TermTable.{termsOf}
+use Rattle.tables.specs.Tests.{breaksLayout, hadOtherArity, equalsEarlier}
+use Rattle.tables.specs.LiteralTable.{literalsOf}
+use Rattle.tables.specs.Tests.{breaksLiteral}
 use Rattle.tables.specs.Checks.{checked}
 use Rattle.tables.specs.Colours.{inUse, shared}
 use Rattle.closure.specs.Graph.{parentPaths}
@@ -73,7 +77,7 @@ p1 =
     record {
       terms = [];
       literals = [];
-      returned = record { answer = Consistent; buffers = record { partition = 170 ∷ 170 ∷ 170 ∷ 170 ∷ 170 ∷ 170 ∷ []; added = 187 ∷ 187 ∷ 187 ∷ 187 ∷ 187 ∷ 187 ∷ 187 ∷ 187 ∷ 187 ∷ 187 ∷ 187 ∷ 187 ∷ 187 ∷ 187 ∷ 187 ∷ 187 ∷ 187 ∷ 187 ∷ []; clauses = 204 ∷ 204 ∷ 204 ∷ 204 ∷ 204 ∷ 204 ∷ 204 ∷ 204 ∷ 204 ∷ 204 ∷ 204 ∷ 204 ∷ 204 ∷ 204 ∷ 204 ∷ 204 ∷ 204 ∷ 204 ∷ [] } };
+      returned = record { numbers = numbersOf Consistent; buffers = record { partition = 170 ∷ 170 ∷ 170 ∷ 170 ∷ 170 ∷ 170 ∷ []; added = 187 ∷ 187 ∷ 187 ∷ 187 ∷ 187 ∷ 187 ∷ 187 ∷ 187 ∷ 187 ∷ 187 ∷ 187 ∷ 187 ∷ 187 ∷ 187 ∷ 187 ∷ 187 ∷ 187 ∷ 187 ∷ []; clauses = 204 ∷ 204 ∷ 204 ∷ 204 ∷ 204 ∷ 204 ∷ 204 ∷ 204 ∷ 204 ∷ 204 ∷ 204 ∷ 204 ∷ 204 ∷ 204 ∷ 204 ∷ 204 ∷ 204 ∷ 204 ∷ [] } };
     }
 
 -- P2: terms p, q; A p=q: consistent, classes 0, 0
@@ -85,7 +89,7 @@ p2 =
           [];
       literals = (1 ∷ 1 ∷ 0 ∷ 0 ∷ 1 ∷ 0 ∷ 0 ∷ 0 ∷ []) ∷
           [];
-      returned = record { answer = Consistent; buffers = record { partition = 0 ∷ 0 ∷ 0 ∷ 0 ∷ 170 ∷ 170 ∷ []; added = 187 ∷ 187 ∷ 187 ∷ 187 ∷ 187 ∷ 187 ∷ 187 ∷ 187 ∷ 187 ∷ 187 ∷ 187 ∷ 187 ∷ 187 ∷ 187 ∷ 187 ∷ 187 ∷ 187 ∷ 187 ∷ []; clauses = 204 ∷ 204 ∷ 204 ∷ 204 ∷ 204 ∷ 204 ∷ 204 ∷ 204 ∷ 204 ∷ 204 ∷ 204 ∷ 204 ∷ 204 ∷ 204 ∷ 204 ∷ 204 ∷ 204 ∷ 204 ∷ [] } };
+      returned = record { numbers = numbersOf Consistent; buffers = record { partition = 0 ∷ 0 ∷ 0 ∷ 0 ∷ 170 ∷ 170 ∷ []; added = 187 ∷ 187 ∷ 187 ∷ 187 ∷ 187 ∷ 187 ∷ 187 ∷ 187 ∷ 187 ∷ 187 ∷ 187 ∷ 187 ∷ 187 ∷ 187 ∷ 187 ∷ 187 ∷ 187 ∷ 187 ∷ []; clauses = 204 ∷ 204 ∷ 204 ∷ 204 ∷ 204 ∷ 204 ∷ 204 ∷ 204 ∷ 204 ∷ 204 ∷ 204 ∷ 204 ∷ 204 ∷ 204 ∷ 204 ∷ 204 ∷ 204 ∷ 204 ∷ [] } };
     }
 
 -- P3: p, q; A p=q, B p different q: clause record `02 00 00 00 01 00 00 00`
@@ -98,7 +102,7 @@ p3 =
       literals = (1 ∷ 1 ∷ 0 ∷ 0 ∷ 1 ∷ 0 ∷ 0 ∷ 0 ∷ []) ∷
           (2 ∷ 2 ∷ 0 ∷ 0 ∷ 1 ∷ 0 ∷ 0 ∷ 0 ∷ []) ∷
           [];
-      returned = record { answer = Inconsistent 1 0 1; buffers = record { partition = 170 ∷ 170 ∷ 170 ∷ 170 ∷ 170 ∷ 170 ∷ []; added = 187 ∷ 187 ∷ 187 ∷ 187 ∷ 187 ∷ 187 ∷ 187 ∷ 187 ∷ 187 ∷ 187 ∷ 187 ∷ 187 ∷ 187 ∷ 187 ∷ 187 ∷ 187 ∷ 187 ∷ 187 ∷ []; clauses = 2 ∷ 0 ∷ 0 ∷ 0 ∷ 1 ∷ 0 ∷ 0 ∷ 0 ∷ 204 ∷ 204 ∷ 204 ∷ 204 ∷ 204 ∷ 204 ∷ 204 ∷ 204 ∷ 204 ∷ 204 ∷ [] } };
+      returned = record { numbers = numbersOf (Inconsistent 1 0 1); buffers = record { partition = 170 ∷ 170 ∷ 170 ∷ 170 ∷ 170 ∷ 170 ∷ []; added = 187 ∷ 187 ∷ 187 ∷ 187 ∷ 187 ∷ 187 ∷ 187 ∷ 187 ∷ 187 ∷ 187 ∷ 187 ∷ 187 ∷ 187 ∷ 187 ∷ 187 ∷ 187 ∷ 187 ∷ 187 ∷ []; clauses = 2 ∷ 0 ∷ 0 ∷ 0 ∷ 1 ∷ 0 ∷ 0 ∷ 0 ∷ 204 ∷ 204 ∷ 204 ∷ 204 ∷ 204 ∷ 204 ∷ 204 ∷ 204 ∷ 204 ∷ 204 ∷ [] } };
     }
 
 -- P4: p, q; B p=q, A p different q: `03 00 00 00 01 00 00 00`
@@ -111,7 +115,7 @@ p4 =
       literals = (2 ∷ 1 ∷ 0 ∷ 0 ∷ 1 ∷ 0 ∷ 0 ∷ 0 ∷ []) ∷
           (1 ∷ 2 ∷ 0 ∷ 0 ∷ 1 ∷ 0 ∷ 0 ∷ 0 ∷ []) ∷
           [];
-      returned = record { answer = Inconsistent 1 0 1; buffers = record { partition = 170 ∷ 170 ∷ 170 ∷ 170 ∷ 170 ∷ 170 ∷ []; added = 187 ∷ 187 ∷ 187 ∷ 187 ∷ 187 ∷ 187 ∷ 187 ∷ 187 ∷ 187 ∷ 187 ∷ 187 ∷ 187 ∷ 187 ∷ 187 ∷ 187 ∷ 187 ∷ 187 ∷ 187 ∷ []; clauses = 3 ∷ 0 ∷ 0 ∷ 0 ∷ 1 ∷ 0 ∷ 0 ∷ 0 ∷ 204 ∷ 204 ∷ 204 ∷ 204 ∷ 204 ∷ 204 ∷ 204 ∷ 204 ∷ 204 ∷ 204 ∷ [] } };
+      returned = record { numbers = numbersOf (Inconsistent 1 0 1); buffers = record { partition = 170 ∷ 170 ∷ 170 ∷ 170 ∷ 170 ∷ 170 ∷ []; added = 187 ∷ 187 ∷ 187 ∷ 187 ∷ 187 ∷ 187 ∷ 187 ∷ 187 ∷ 187 ∷ 187 ∷ 187 ∷ 187 ∷ 187 ∷ 187 ∷ 187 ∷ 187 ∷ 187 ∷ 187 ∷ []; clauses = 3 ∷ 0 ∷ 0 ∷ 0 ∷ 1 ∷ 0 ∷ 0 ∷ 0 ∷ 204 ∷ 204 ∷ 204 ∷ 204 ∷ 204 ∷ 204 ∷ 204 ∷ 204 ∷ 204 ∷ 204 ∷ [] } };
     }
 
 -- P5: p; B p different p: inconsistent by 0, no record
@@ -122,7 +126,7 @@ p5 =
           [];
       literals = (2 ∷ 2 ∷ 0 ∷ 0 ∷ 0 ∷ 0 ∷ 0 ∷ 0 ∷ []) ∷
           [];
-      returned = record { answer = Inconsistent 0 0 0; buffers = record { partition = 170 ∷ 170 ∷ 170 ∷ 170 ∷ 170 ∷ 170 ∷ []; added = 187 ∷ 187 ∷ 187 ∷ 187 ∷ 187 ∷ 187 ∷ 187 ∷ 187 ∷ 187 ∷ 187 ∷ 187 ∷ 187 ∷ 187 ∷ 187 ∷ 187 ∷ 187 ∷ 187 ∷ 187 ∷ []; clauses = 204 ∷ 204 ∷ 204 ∷ 204 ∷ 204 ∷ 204 ∷ 204 ∷ 204 ∷ 204 ∷ 204 ∷ 204 ∷ 204 ∷ 204 ∷ 204 ∷ 204 ∷ 204 ∷ 204 ∷ 204 ∷ [] } };
+      returned = record { numbers = numbersOf (Inconsistent 0 0 0); buffers = record { partition = 170 ∷ 170 ∷ 170 ∷ 170 ∷ 170 ∷ 170 ∷ []; added = 187 ∷ 187 ∷ 187 ∷ 187 ∷ 187 ∷ 187 ∷ 187 ∷ 187 ∷ 187 ∷ 187 ∷ 187 ∷ 187 ∷ 187 ∷ 187 ∷ 187 ∷ 187 ∷ 187 ∷ 187 ∷ []; clauses = 204 ∷ 204 ∷ 204 ∷ 204 ∷ 204 ∷ 204 ∷ 204 ∷ 204 ∷ 204 ∷ 204 ∷ 204 ∷ 204 ∷ 204 ∷ 204 ∷ 204 ∷ 204 ∷ 204 ∷ 204 ∷ [] } };
     }
 
 -- P6: the same in A: one record of kind 4
@@ -133,7 +137,7 @@ p6 =
           [];
       literals = (1 ∷ 2 ∷ 0 ∷ 0 ∷ 0 ∷ 0 ∷ 0 ∷ 0 ∷ []) ∷
           [];
-      returned = record { answer = Inconsistent 0 0 1; buffers = record { partition = 170 ∷ 170 ∷ 170 ∷ 170 ∷ 170 ∷ 170 ∷ []; added = 187 ∷ 187 ∷ 187 ∷ 187 ∷ 187 ∷ 187 ∷ 187 ∷ 187 ∷ 187 ∷ 187 ∷ 187 ∷ 187 ∷ 187 ∷ 187 ∷ 187 ∷ 187 ∷ 187 ∷ 187 ∷ []; clauses = 4 ∷ 0 ∷ 0 ∷ 0 ∷ 0 ∷ 0 ∷ 0 ∷ 0 ∷ 204 ∷ 204 ∷ 204 ∷ 204 ∷ 204 ∷ 204 ∷ 204 ∷ 204 ∷ 204 ∷ 204 ∷ [] } };
+      returned = record { numbers = numbersOf (Inconsistent 0 0 1); buffers = record { partition = 170 ∷ 170 ∷ 170 ∷ 170 ∷ 170 ∷ 170 ∷ []; added = 187 ∷ 187 ∷ 187 ∷ 187 ∷ 187 ∷ 187 ∷ 187 ∷ 187 ∷ 187 ∷ 187 ∷ 187 ∷ 187 ∷ 187 ∷ 187 ∷ 187 ∷ 187 ∷ 187 ∷ 187 ∷ []; clauses = 4 ∷ 0 ∷ 0 ∷ 0 ∷ 0 ∷ 0 ∷ 0 ∷ 0 ∷ 204 ∷ 204 ∷ 204 ∷ 204 ∷ 204 ∷ 204 ∷ 204 ∷ 204 ∷ 204 ∷ 204 ∷ [] } };
     }
 
 -- P7: LATE: terms k, m, p, q, f(k), f(m). A p=f(k), A q=f(m), B k=m, B p different q: 0=1 -> 2=3
@@ -143,7 +147,7 @@ p7 =
     record {
       terms = lateTerms;
       literals = lateEqualities ++ ((2 ∷ 2 ∷ 2 ∷ 0 ∷ 3 ∷ 0 ∷ 0 ∷ 0 ∷ []) ∷ []);
-      returned = record { answer = Inconsistent 3 0 2; buffers = record { partition = 170 ∷ 170 ∷ 170 ∷ 170 ∷ 170 ∷ 170 ∷ []; added = 187 ∷ 187 ∷ 187 ∷ 187 ∷ 187 ∷ 187 ∷ 187 ∷ 187 ∷ 187 ∷ 187 ∷ 187 ∷ 187 ∷ 187 ∷ 187 ∷ 187 ∷ 187 ∷ 187 ∷ 187 ∷ []; clauses = 1 ∷ 0 ∷ 0 ∷ 0 ∷ 1 ∷ 0 ∷ 0 ∷ 0 ∷ 2 ∷ 0 ∷ 2 ∷ 0 ∷ 3 ∷ 0 ∷ 0 ∷ 0 ∷ 204 ∷ 204 ∷ [] } };
+      returned = record { numbers = numbersOf (Inconsistent 3 0 2); buffers = record { partition = 170 ∷ 170 ∷ 170 ∷ 170 ∷ 170 ∷ 170 ∷ []; added = 187 ∷ 187 ∷ 187 ∷ 187 ∷ 187 ∷ 187 ∷ 187 ∷ 187 ∷ 187 ∷ 187 ∷ 187 ∷ 187 ∷ 187 ∷ 187 ∷ 187 ∷ 187 ∷ 187 ∷ 187 ∷ []; clauses = 1 ∷ 0 ∷ 0 ∷ 0 ∷ 1 ∷ 0 ∷ 0 ∷ 0 ∷ 2 ∷ 0 ∷ 2 ∷ 0 ∷ 3 ∷ 0 ∷ 0 ∷ 0 ∷ 204 ∷ 204 ∷ [] } };
     }
 
 -- P8: LATE with its last literal in A: premise 0=1, then kind 4
@@ -153,7 +157,7 @@ p8 =
     record {
       terms = lateTerms;
       literals = lateEqualities ++ ((1 ∷ 2 ∷ 2 ∷ 0 ∷ 3 ∷ 0 ∷ 0 ∷ 0 ∷ []) ∷ []);
-      returned = record { answer = Inconsistent 3 0 2; buffers = record { partition = 170 ∷ 170 ∷ 170 ∷ 170 ∷ 170 ∷ 170 ∷ []; added = 187 ∷ 187 ∷ 187 ∷ 187 ∷ 187 ∷ 187 ∷ 187 ∷ 187 ∷ 187 ∷ 187 ∷ 187 ∷ 187 ∷ 187 ∷ 187 ∷ 187 ∷ 187 ∷ 187 ∷ 187 ∷ []; clauses = 1 ∷ 0 ∷ 0 ∷ 0 ∷ 1 ∷ 0 ∷ 0 ∷ 0 ∷ 4 ∷ 0 ∷ 0 ∷ 0 ∷ 0 ∷ 0 ∷ 0 ∷ 0 ∷ 204 ∷ 204 ∷ [] } };
+      returned = record { numbers = numbersOf (Inconsistent 3 0 2); buffers = record { partition = 170 ∷ 170 ∷ 170 ∷ 170 ∷ 170 ∷ 170 ∷ []; added = 187 ∷ 187 ∷ 187 ∷ 187 ∷ 187 ∷ 187 ∷ 187 ∷ 187 ∷ 187 ∷ 187 ∷ 187 ∷ 187 ∷ 187 ∷ 187 ∷ 187 ∷ 187 ∷ 187 ∷ 187 ∷ []; clauses = 1 ∷ 0 ∷ 0 ∷ 0 ∷ 1 ∷ 0 ∷ 0 ∷ 0 ∷ 4 ∷ 0 ∷ 0 ∷ 0 ∷ 0 ∷ 0 ∷ 0 ∷ 0 ∷ 204 ∷ 204 ∷ [] } };
     }
 
 -- P9: MIDDLE: terms k, m, p, a, b, g(a,m), g(k,b). A a=k, A p=g(a,m), B b=m, B p different g(k,b). Added term 7 is g(k,m); one clause, 2=7
@@ -163,7 +167,7 @@ p9 =
     record {
       terms = middleTerms;
       literals = middleLiterals;
-      returned = record { answer = Inconsistent 3 1 1; buffers = record { partition = 170 ∷ 170 ∷ 170 ∷ 170 ∷ 170 ∷ 170 ∷ []; added = 21 ∷ 0 ∷ 2 ∷ 0 ∷ 0 ∷ 0 ∷ 1 ∷ 0 ∷ 0 ∷ 0 ∷ 0 ∷ 0 ∷ 0 ∷ 0 ∷ 0 ∷ 0 ∷ 187 ∷ 187 ∷ []; clauses = 2 ∷ 0 ∷ 2 ∷ 0 ∷ 7 ∷ 0 ∷ 0 ∷ 0 ∷ 204 ∷ 204 ∷ 204 ∷ 204 ∷ 204 ∷ 204 ∷ 204 ∷ 204 ∷ 204 ∷ 204 ∷ [] } };
+      returned = record { numbers = numbersOf (Inconsistent 3 1 1); buffers = record { partition = 170 ∷ 170 ∷ 170 ∷ 170 ∷ 170 ∷ 170 ∷ []; added = 21 ∷ 0 ∷ 2 ∷ 0 ∷ 0 ∷ 0 ∷ 1 ∷ 0 ∷ 0 ∷ 0 ∷ 0 ∷ 0 ∷ 0 ∷ 0 ∷ 0 ∷ 0 ∷ 187 ∷ 187 ∷ []; clauses = 2 ∷ 0 ∷ 2 ∷ 0 ∷ 7 ∷ 0 ∷ 0 ∷ 0 ∷ 204 ∷ 204 ∷ 204 ∷ 204 ∷ 204 ∷ 204 ∷ 204 ∷ 204 ∷ 204 ∷ 204 ∷ [] } };
     }
 
 -- P10: MIDDLE with g(k,m) given as term 7 and B 7=7 added at the end: nothing added, same clause
@@ -173,7 +177,7 @@ p10 =
     record {
       terms = middleTerms ++ ((21 ∷ 0 ∷ 2 ∷ 0 ∷ 0 ∷ 0 ∷ 1 ∷ 0 ∷ 0 ∷ 0 ∷ 0 ∷ 0 ∷ 0 ∷ 0 ∷ 0 ∷ 0 ∷ []) ∷ []);
       literals = middleLiterals ++ ((2 ∷ 1 ∷ 7 ∷ 0 ∷ 7 ∷ 0 ∷ 0 ∷ 0 ∷ []) ∷ []);
-      returned = record { answer = Inconsistent 3 0 1; buffers = record { partition = 170 ∷ 170 ∷ 170 ∷ 170 ∷ 170 ∷ 170 ∷ []; added = 187 ∷ 187 ∷ 187 ∷ 187 ∷ 187 ∷ 187 ∷ 187 ∷ 187 ∷ 187 ∷ 187 ∷ 187 ∷ 187 ∷ 187 ∷ 187 ∷ 187 ∷ 187 ∷ 187 ∷ 187 ∷ []; clauses = 2 ∷ 0 ∷ 2 ∷ 0 ∷ 7 ∷ 0 ∷ 0 ∷ 0 ∷ 204 ∷ 204 ∷ 204 ∷ 204 ∷ 204 ∷ 204 ∷ 204 ∷ 204 ∷ 204 ∷ 204 ∷ [] } };
+      returned = record { numbers = numbersOf (Inconsistent 3 0 1); buffers = record { partition = 170 ∷ 170 ∷ 170 ∷ 170 ∷ 170 ∷ 170 ∷ []; added = 187 ∷ 187 ∷ 187 ∷ 187 ∷ 187 ∷ 187 ∷ 187 ∷ 187 ∷ 187 ∷ 187 ∷ 187 ∷ 187 ∷ 187 ∷ 187 ∷ 187 ∷ 187 ∷ 187 ∷ 187 ∷ []; clauses = 2 ∷ 0 ∷ 2 ∷ 0 ∷ 7 ∷ 0 ∷ 0 ∷ 0 ∷ 204 ∷ 204 ∷ 204 ∷ 204 ∷ 204 ∷ 204 ∷ 204 ∷ 204 ∷ 204 ∷ 204 ∷ [] } };
     }
 
 -- P11: no literal, one term: class 65535
@@ -183,7 +187,7 @@ p11 =
       terms = (10 ∷ 0 ∷ 0 ∷ 0 ∷ 0 ∷ 0 ∷ 0 ∷ 0 ∷ 0 ∷ 0 ∷ 0 ∷ 0 ∷ 0 ∷ 0 ∷ 0 ∷ 0 ∷ []) ∷
           [];
       literals = [];
-      returned = record { answer = Consistent; buffers = record { partition = 255 ∷ 255 ∷ 170 ∷ 170 ∷ 170 ∷ 170 ∷ []; added = 187 ∷ 187 ∷ 187 ∷ 187 ∷ 187 ∷ 187 ∷ 187 ∷ 187 ∷ 187 ∷ 187 ∷ 187 ∷ 187 ∷ 187 ∷ 187 ∷ 187 ∷ 187 ∷ 187 ∷ 187 ∷ []; clauses = 204 ∷ 204 ∷ 204 ∷ 204 ∷ 204 ∷ 204 ∷ 204 ∷ 204 ∷ 204 ∷ 204 ∷ 204 ∷ 204 ∷ 204 ∷ 204 ∷ 204 ∷ 204 ∷ 204 ∷ 204 ∷ [] } };
+      returned = record { numbers = numbersOf Consistent; buffers = record { partition = 255 ∷ 255 ∷ 170 ∷ 170 ∷ 170 ∷ 170 ∷ []; added = 187 ∷ 187 ∷ 187 ∷ 187 ∷ 187 ∷ 187 ∷ 187 ∷ 187 ∷ 187 ∷ 187 ∷ 187 ∷ 187 ∷ 187 ∷ 187 ∷ 187 ∷ 187 ∷ 187 ∷ 187 ∷ []; clauses = 204 ∷ 204 ∷ 204 ∷ 204 ∷ 204 ∷ 204 ∷ 204 ∷ 204 ∷ 204 ∷ 204 ∷ 204 ∷ 204 ∷ 204 ∷ 204 ∷ 204 ∷ 204 ∷ 204 ∷ 204 ∷ [] } };
     }
 
 pub benchCases : List Case
@@ -192,5 +196,5 @@ benchCases = p1 ∷ p2 ∷ p3 ∷ p4 ∷ p5 ∷ p6 ∷ p7 ∷ p8 ∷ p9 ∷ p10 
 
 -- each of the eleven cases comes back as 01 prints it
 pub bench : map (λ c. judged (bytes (c .terms)) (bytes (c .literals)) lent) benchCases ≡ map (λ c. c .returned) benchCases
-unfolding benchCases bytes lent judged flatMap zipWith below any every keep among same someBelow orElse firstBelow firstOf pairsBelow downTo down parts symbols breaksLayout hadOtherArity equalsEarlier termsOf breaksLiteral literalsOf checked inUse shared parentPaths between
+unfolding benchCases bytes lent judged flatMap zipWith below any every keep among same firstOf pairsBelow downTo down parts symbols breaksLayout hadOtherArity equalsEarlier termsOf breaksLiteral literalsOf checked inUse shared parentPaths between
 bench = refl

@@ -43,12 +43,12 @@ critical-found ls G d e =
     let l = literalAt ls d in
     record {
       stands = getD-mem ls d (record { side = A; kind = equal; left = 0; right = 0 }) (first .within);
-      differs = not-equal (l .kind) (and-left (not (isEqual (l .kind))) (joined G (l .left) (l .right)) (first .passes));
-      meets = and-right (not (isEqual (l .kind))) (joined G (l .left) (l .right)) (first .passes);
+      differs = not-equal (l .kind) (and-left (not (isEqual (l .kind))) (joined G (l .left) (l .right)) (first .such));
+      meets = and-right (not (isEqual (l .kind))) (joined G (l .left) (l .right)) (first .such);
     }
 
 -- "the lowest record of kind 2 whose sides are joined"
-pub critical-first : (ls : List Literal) (G : Graph) (d : ℕ) → critical ls G ≡ some d → First (contradicted ls G) (length ls) d
+pub critical-first : (ls : List Literal) (G : Graph) (d : ℕ) → critical ls G ≡ some d → First (λ i. T (contradicted ls G i)) (length ls) d
 unfolding critical
 critical-first ls G d e = firstBelow-some (contradicted ls G) (length ls) d e
 

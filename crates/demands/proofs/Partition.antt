@@ -52,11 +52,11 @@ module _ (ts : List Term) (ls : List Literal) (G : Graph) where
   class-used t h = rw (passed (inUse ts ls t) h)
 
   -- "the lowest number of a given term in its class"
-  pub class-lowest : (t : ℕ) → t < length ts → T (inUse ts ls t) → First (inClass t) (length ts) (classNumber ts ls G t)
+  pub class-lowest : (t : ℕ) → t < length ts → T (inUse ts ls t) → First (λ u. T (inClass t u)) (length ts) (classNumber ts ls G t)
   class-lowest t w h = go (firstBelow (inClass t) (length ts)) refl
     where
-      go : (o : Option ℕ) → firstBelow (inClass t) (length ts) ≡ o → First (inClass t) (length ts) (classNumber ts ls G t)
-      go (some k) e = subst (First (inClass t) (length ts)) (sym (class-used t h ∙ ap (λ (o : Option ℕ). Option·getD o 65535) e)) (firstBelow-some (inClass t) (length ts) k e)
+      go : (o : Option ℕ) → firstBelow (inClass t) (length ts) ≡ o → First (λ u. T (inClass t u)) (length ts) (classNumber ts ls G t)
+      go (some k) e = subst (First (λ u. T (inClass t u)) (length ts)) (sym (class-used t h ∙ ap (λ (o : Option ℕ). Option·getD o 65535) e)) (firstBelow-some (inClass t) (length ts) k e)
       go none e = absurd (firstBelow-none (inClass t) (length ts) e t w (and-both (inUse ts ls t) (joined G t t) h (joined-self G t)))
 
   -- two terms in use have one class number exactly when they are joined
@@ -64,7 +64,7 @@ module _ (ts : List Term) (ls : List Literal) (G : Graph) where
   class-joined u v wu wv hu hv = (apart, together)
     where
       same-class : (x : ℕ) (w : x < length ts) (h : T (inUse ts ls x)) → T (joined G (classNumber ts ls G x) x)
-      same-class x w h = and-right (inUse ts ls (classNumber ts ls G x)) (joined G (classNumber ts ls G x) x) (class-lowest x w h .passes)
+      same-class x w h = and-right (inUse ts ls (classNumber ts ls G x)) (joined G (classNumber ts ls G x) x) (class-lowest x w h .such)
 
       apart : classNumber ts ls G u ≡ classNumber ts ls G v → T (joined G u v)
       apart e = joined-trans G u (classNumber ts ls G u) v (joined-sym G (classNumber ts ls G u) u (same-class u wu hu)) (subst (λ (k : ℕ). T (joined G k v)) (sym e) (same-class v wv hv))
@@ -76,7 +76,7 @@ module _ (ts : List Term) (ls : List Literal) (G : Graph) where
       together j =
           let a = class-lowest u wu hu in
           let b = class-lowest v wv hv in
-          first-one (inClass u) (length ts) (classNumber ts ls G u) (classNumber ts ls G v) a (record { within = b .within; passes = moved v u (classNumber ts ls G v) (joined-sym G u v j) (b .passes); none-before = λ k w h. b .none-before k w (moved u v k j h) })
+          first-one (λ k. T (inClass u k)) (length ts) (classNumber ts ls G u) (classNumber ts ls G v) a (record { within = b .within; such = moved v u (classNumber ts ls G v) (joined-sym G u v j) (b .such); none-before = λ k w h. b .none-before k w (moved u v k j h) })
 
   -- each class number fits its two bytes
   pub class-fits : (t : ℕ) → length ts ≤ 256 → classNumber ts ls G t < 65536

@@ -2,27 +2,31 @@
 use mathlib.Core.Bool.{not}
 use mathlib.Core.List.{List, _++_, List·Memᴰ}
 use mathlib.Core.Logic.{_↔_}
-use mathlib.Core.Option.{some, none}
+use mathlib.Core.Option.{Option, some, none}
 use mathlib.Core.Path.{_≡_, refl, sym, ap, ap₂, subst, subst₂, _∙_}
 use Prim.Native.Nat.{ℕ, _*_, _≤_, _<_}
 use native.Mathlib.Omega.{arith}
 use lib.Dec.{T}
-use lib.ListN.{length, take, drop, length-append}
+use lib.ListN.{length, take, drop, length-append, length-map}
 use lib.Seq.{take-at}
-use Rattle.tables.specs.Words.{First, keep, below}
+use Rattle.tables.specs.Words.{First}
 use Rattle.tables.specs.Bytes.{AllBytes}
-use Rattle.tables.specs.Terms.{Term, LowerArguments}
+use Rattle.tables.specs.Terms.{Term}
+use Rattle.tables.specs.Parts.{LowerArguments}
 use Rattle.tables.specs.TermTable.{termsOf}
 use Rattle.tables.specs.LiteralTable.{Literal, different, literalsOf}
 use Rattle.tables.specs.Colours.{inUse}
+use Rattle.tables.specs.Rows.{Refuses, Accepted}
 use Rattle.tables.specs.Checks.{checked}
 use Rattle.tables.specs.declared.Check.the-variants.{Sound}
 use Rattle.tables.specs.Interpretations.{Satisfiable, FinitelySatisfiable, Entailed, FinitelyEntailed}
 use Rattle.tables.proofs.Colours.{SidesWithin, inUse-within}
 use Rattle.tables.proofs.Words.{and-left, and-right, and-both}
+use Rattle.tables.proofs.Rows.{sound-exactly}
 use Rattle.tables.proofs.Sound.{sound, length-termsOf, lower-arguments, sides-within}
 use Rattle.closure.specs.Graph.{joined}
 use Rattle.closure.specs.Steps.{State, tableOf, Run, NoStepLeft}
+use Rattle.closure.specs.OwnRun.{ownRun}
 use Rattle.closure.proofs.Running.Runs.{run-sound}
 use Rattle.closure.proofs.Running.OwnRun.{own-run}
 use Rattle.closure.proofs.Running.FewSteps.{fewer-steps, few-added, own-run-complete}
@@ -35,188 +39,251 @@ use Rattle.clauses.specs.Truth.{Summarises}
 use Rattle.clauses.proofs.Interpolation.{summary-shared, summary-A, summary-B}
 use Rattle.clauses.proofs.Order.{OneEach, standing-true, shared-standing}
 use Rattle.clauses.proofs.OneClause.{summary-one-each, written-summarises}
-use Rattle.demands.specs.declared.Answer.{Answer}
 use Rattle.demands.specs.declared.Answer.the-variants.{Consistent, Inconsistent, Refused}
-use Rattle.demands.specs.Buffers.{classNumber, writtenOver, classAt, LowestInClass}
-use Rattle.demands.specs.Call.{Buffers, recordsIn, judged}
-use Rattle.demands.specs.Refusals.{Carried, Refusal}
-use Rattle.demands.specs.Demands.{Demand1, Demand2, Demand3, Demand3Returned}
+use Rattle.demands.specs.declared.Numbers.{Numbers}
+use Rattle.demands.specs.Answers.{numbersOf}
+use Rattle.demands.specs.Buffers.{Buffers, Returned, classNumber, termBytes, writtenOver, classAt, LowestInClass}
+use Rattle.demands.specs.Verdicts.{Verdict, recordsIn, answered}
+use Rattle.demands.specs.Refusals.{rowsOf}
+use Rattle.demands.specs.Call.{refused, judged, Called}
+use Rattle.demands.specs.Demands.{Demand1, Classes, Demand2, Demand3, Demands, usedTerms}
 use Rattle.demands.proofs.AddedTerms.{addedBytes, addedBytes-length, table-read}
 use Rattle.demands.proofs.AddedFit.{added-fits}
 use Rattle.demands.proofs.Critical.{critical-found, critical-none}
 use Rattle.demands.proofs.Partition.{inClass, class-lowest, class-idle, class-joined, partition-read}
-use Rattle.demands.proofs.Ways.{came-refused, came-consistent, came-inconsistent, refusal-given, CameConsistent, clauseBytesOf}
+use Rattle.demands.proofs.Ways.{Way, refused-way, answered-way, way, refusal-given, clauseBytesOf}
 
--- ---- what holds of tables that pass rows 1 to 6, for every run
+-- ---- what holds of tables whose arguments are lower and whose literals are over their terms, for every run
 
-module _ (terms literals : List ℕ) (good : checked terms literals ≡ Sound) where
-  lower : LowerArguments (termsOf terms)
-  lower = lower-arguments terms literals (sound terms literals good)
-
-  within : SidesWithin (termsOf terms) (literalsOf literals)
-  within = sides-within terms literals (sound terms literals good)
-
-  few : length (termsOf terms) ≤ 256
-  few = subst (λ (n : ℕ). n ≤ 256) (sym (length-termsOf terms)) (sound terms literals good .terms-fit)
-
-  -- demand 3, "every run ends": with any term in use it has fewer steps than there are such terms
-  pub run-ends : {k : ℕ} {st : State} → Run (termsOf terms) (literalsOf literals) k st → 0 < length (keep (inUse (termsOf terms) (literalsOf literals)) (below (length (termsOf terms)))) → k < length (keep (inUse (termsOf terms) (literalsOf literals)) (below (length (termsOf terms))))
-  run-ends run some-used = fewer-steps (termsOf terms) (literalsOf literals) lower within some-used run
-
-  -- demand 3, "all that are carried to their end have the same classes for the terms in use"
-  pub runs-agree : {k j : ℕ} {st other : State} → Run (termsOf terms) (literalsOf literals) k st → NoStepLeft (termsOf terms) (literalsOf literals) st → Run (termsOf terms) (literalsOf literals) j other → NoStepLeft (termsOf terms) (literalsOf literals) other → (u v : ℕ) → T (inUse (termsOf terms) (literalsOf literals) u) → T (inUse (termsOf terms) (literalsOf literals) v) → T (joined (st .graph) u v) → T (joined (other .graph) u v)
-  runs-agree = runs.runs-agree (termsOf terms) (literalsOf literals) lower within
-
-  -- demand 3, "whenever a disequality has its sides joined, the clauses read off the graph use only shared symbols, hold in every interpretation that
-  -- satisfies A, and are never all true in one that satisfies B": in every graph that a run reaches
-  pub run-summarises : {k : ℕ} {st : State} → Run (termsOf terms) (literalsOf literals) k st → (l : Literal) → List·Memᴰ l (literalsOf literals) → l .kind ≡ different → T (joined (st .graph) (l .left) (l .right)) → Summarises (termsOf terms) (literalsOf literals) (tableOf (termsOf terms) st) (standing (length (tableOf (termsOf terms) st)) (summary (termsOf terms) (literalsOf literals) (tableOf (termsOf terms) st) (st .graph) l))
+module _ (ts : List Term) (ls : List Literal) (lower : LowerArguments ts) (within : SidesWithin ts ls) where
+  -- "the clauses read off the graph use only shared symbols, hold in every interpretation that satisfies A, and are never all true in one that
+  -- satisfies B"
+  run-summarises : {k : ℕ} {st : State} → Run ts ls k st → (l : Literal) → List·Memᴰ l ls → l .kind ≡ different → T (joined (st .graph) (l .left) (l .right)) → Summarises ts ls (tableOf ts st) (standing (length (tableOf ts st)) (summary ts ls (tableOf ts st) (st .graph) l))
   run-summarises {st = st} run l stands differ meet =
-      let s = run-sound (termsOf terms) (literalsOf literals) lower within run in
-      let n = length (tableOf (termsOf terms) st) in
-      let table = tableOf (termsOf terms) st in
-      let cs = summary (termsOf terms) (literalsOf literals) table (st .graph) l in
-      let one : OneEach n cs = summary-one-each (termsOf terms) (st .added) (literalsOf literals) (s .lower) within (st .graph) (s .edges) l stands differ meet in
+      let s = run-sound ts ls lower within run in
+      let n = length (tableOf ts st) in
+      let table = tableOf ts st in
+      let cs = summary ts ls table (st .graph) l in
+      let one : OneEach n cs = summary-one-each ts (st .added) ls (s .lower) within (st .graph) (s .edges) l stands differ meet in
       record {
-        shared = shared-standing n cs (termsOf terms) (literalsOf literals) table (summary-shared (termsOf terms) (st .added) (literalsOf literals) (s .lower) within (st .graph) (s .edges) l stands differ meet);
-        follows-from-A = λ I a. standing-true n cs one I table .0 (summary-A (termsOf terms) (st .added) (literalsOf literals) (s .lower) within (st .graph) (s .edges) l stands differ meet I a);
-        contradicts-B = λ I b all. summary-B (termsOf terms) (st .added) (literalsOf literals) (s .lower) within (st .graph) (s .edges) l stands differ meet I b (standing-true n cs one I table .1 all);
+        shared = shared-standing n cs ts ls table (summary-shared ts (st .added) ls (s .lower) within (st .graph) (s .edges) l stands differ meet);
+        follows-from-A = λ I a. standing-true n cs one I table .0 (summary-A ts (st .added) ls (s .lower) within (st .graph) (s .edges) l stands differ meet I a);
+        contradicts-B = λ I b all. summary-B ts (st .added) ls (s .lower) within (st .graph) (s .edges) l stands differ meet I b (standing-true n cs one I table .1 all);
       }
 
-  -- the library's run is one of these runs
-  pub own-run-allowed : (st : State) → Carried terms literals st → (k : ℕ) × Run (termsOf terms) (literalsOf literals) k st
-  own-run-allowed st c = own-run (termsOf terms) (literalsOf literals) lower within st (c .last)
+  pub demand-3 : Demand3 ts ls
+  demand-3 =
+      record {
+        run-ends = λ run h. fewer-steps ts ls lower within run h;
+        runs-agree = λ run done run′ done′. runs.runs-agree ts ls lower within run done run′ done′;
+        run-summarises = λ run. run-summarises run;
+        own-run-allowed = own-run ts ls lower within;
+        own-run-ended = own-run-complete ts ls lower within;
+      }
 
-  -- carried to its end
-  pub own-run-ended : (st : State) → Carried terms literals st → NoStepLeft (termsOf terms) (literalsOf literals) st
-  own-run-ended st c = own-run-complete (termsOf terms) (literalsOf literals) lower within st (c .last)
+  -- ---- a verdict
+
+  module _ (st : State) {o : Option ℕ} (v : Verdict ts ls st o) where
+    -- the run behind it
+    run : Run ts ls (own-run ts ls lower within st (v .last) .0) st
+    run = own-run ts ls lower within st (v .last) .1
+
+    ended : NoStepLeft ts ls st
+    ended = own-run-complete ts ls lower within st (v .last)
 
   -- no critical disequality: some finite interpretation satisfies A and B
-  apart-finite : (st : State) → Carried terms literals st → critical (literalsOf literals) (st .graph) ≡ none → FinitelySatisfiable (termsOf terms) (literalsOf literals)
-  apart-finite st c e = runs.apart-finitely (termsOf terms) (literalsOf literals) lower within (own-run-allowed st c .1) (own-run-ended st c) .0 (critical-none (literalsOf literals) (st .graph) e)
+  apart-finite : (st : State) → Verdict ts ls st none → FinitelySatisfiable ts ls
+  apart-finite st v = runs.apart-finitely ts ls lower within (run st v) (ended st v) .0 (critical-none ls (st .graph) (v .found))
 
   -- a critical disequality: none does
-  critical-never : (st : State) → Carried terms literals st → (d : ℕ) → critical (literalsOf literals) (st .graph) ≡ some d → Satisfiable (termsOf terms) (literalsOf literals) → ⊥
-  critical-never st c d e s =
-      let x = critical-found (literalsOf literals) (st .graph) d e in
-      runs.apart-exact (termsOf terms) (literalsOf literals) lower within (own-run-allowed st c .1) (own-run-ended st c) .1 s (literalAt (literalsOf literals) d) (x .stands) (x .differs) (x .meets)
+  critical-never : (st : State) (d : ℕ) → Verdict ts ls st (some d) → Satisfiable ts ls → ⊥
+  critical-never st d v s =
+      let x = critical-found ls (st .graph) d (v .found) in
+      runs.apart-exact ts ls lower within (run st v) (ended st v) .1 s (literalAt ls d) (x .stands) (x .differs) (x .meets)
+
+  -- what the partition holds where the answer is consistent: p is the partition at exit
+  module _ (few : length ts ≤ 256) (st : State) (v : Verdict ts ls st none) (bs : Buffers) where
+    p : List ℕ
+    p = answered ts ls bs st none .buffers .partition
+
+    -- the class number that the call writes for a given term
+    class : (t : ℕ) → t < length ts → classAt p t ≡ classNumber ts ls (st .graph) t
+    unfolding p
+    class t h = partition-read ts ls (st .graph) (bs .partition) t few h
+
+    used-in : (t : ℕ) → T (inUse ts ls t) → t < length ts
+    used-in t h = inUse-within ts ls lower within t h
+
+    -- two terms in use have one class number exactly when the run has joined them
+    class-means : (u w : ℕ) → T (inUse ts ls u) → T (inUse ts ls w) → (classAt p u ≡ classAt p w) ↔ T (joined (st .graph) u w)
+    class-means u w hu hw =
+        let x = class-joined ts ls (st .graph) u w (used-in u hu) (used-in w hw) hu hw in
+        (λ e. x .0 (sym (class u (used-in u hu)) ∙ e ∙ class w (used-in w hw)), λ j. class u (used-in u hu) ∙ x .1 j ∙ sym (class w (used-in w hw)))
+
+    -- "the lowest number of a given term in its class": it is a given term in use of that class, and no lower one is
+    lowest : (t : ℕ) → T (inUse ts ls t) → LowestInClass ts ls p t
+    lowest t h =
+        let c = classAt p t in
+        let first = subst (First (λ u. T (inClass ts ls (st .graph) t u)) (length ts)) (sym (class t (used-in t h))) (class-lowest ts ls (st .graph) t (used-in t h) h) in
+        let used = and-left (inUse ts ls c) (joined (st .graph) c t) (first .such) in
+        record {
+          in-use = used;
+          in-class = class-means c t used h .1 (and-right (inUse ts ls c) (joined (st .graph) c t) (first .such));
+          none-lower = λ u l hu e. first .none-before u l (and-both (inUse ts ls u) (joined (st .graph) u t) hu (class-means u t hu h .0 e));
+        }
+
+    classes-held : Classes ts ls (answered ts ls bs st none .buffers .partition)
+    unfolding p
+    classes-held =
+        record {
+          classes-exactly = λ u w hu hw. let x = runs.joined-entailed ts ls lower within (run st v) (ended st v) u w hu hw in let y = class-means u w hu hw in (λ e. x .0 (y .0 e), λ z. y .1 (x .1 z));
+          classes-finitely = λ u w hu hw. let x = runs.joined-finitely ts ls lower within (run st v) (ended st v) u w hu hw in let y = class-means u w hu hw in (λ e. x .0 (y .0 e), λ z. y .1 (x .1 z));
+          class-is-lowest = lowest;
+          idle-class = λ t h i. class t h ∙ class-idle ts ls (st .graph) t i;
+        }
+
+-- ---- numbers of different answers differ, and those of one answer are its own
+
+consistent-refused : {n p : ℕ} → numbersOf Consistent ≡ numbersOf (Refused n p) → ⊥
+consistent-refused e = let z : _≡_ {A = ℕ} 0 2 = ap (λ (x : Numbers). x .verdict) e in omega arith
+
+inconsistent-refused : {d a k n p : ℕ} → numbersOf (Inconsistent d a k) ≡ numbersOf (Refused n p) → ⊥
+inconsistent-refused e = let z : _≡_ {A = ℕ} 1 2 = ap (λ (x : Numbers). x .verdict) e in omega arith
+
+consistent-inconsistent : {d a k : ℕ} → numbersOf Consistent ≡ numbersOf (Inconsistent d a k) → ⊥
+consistent-inconsistent e = let z : _≡_ {A = ℕ} 0 1 = ap (λ (x : Numbers). x .verdict) e in omega arith
+
+-- an answer is no refusal
+answered-refused : (ts : List Term) (ls : List Literal) (bs : Buffers) (st : State) (o : Option ℕ) {n p : ℕ} → answered ts ls bs st o .numbers ≡ numbersOf (Refused n p) → ⊥
+answered-refused ts ls bs st none e = consistent-refused e
+answered-refused ts ls bs st (some d) e = inconsistent-refused e
 
 -- ---- a call on any bytes
 
 module _ (terms literals : List ℕ) (bs : Buffers) where
-  -- demand 1: a refusal has 01's number and place, and comes only where 01 says
-  pub refusal-exactly : (n p : ℕ) → (judged terms literals bs .answer ≡ Refused n p) ↔ Refusal terms literals bs n p
-  refusal-exactly n p = (λ e. came-refused terms literals bs n p e .0, λ r. refusal-given terms literals bs n p r)
+  abbrev ts : List Term
+  ts = termsOf terms
 
-  -- demand 1: "and changes no output byte"
-  pub refused-changes-nothing : (n p : ℕ) → judged terms literals bs .answer ≡ Refused n p → judged terms literals bs .buffers ≡ bs
-  refused-changes-nothing n p e = came-refused terms literals bs n p e .1
+  abbrev ls : List Literal
+  ls = literalsOf literals
 
-  -- demand 2: consistent is right, over a finite, non-empty domain
-  pub consistent-satisfiable : judged terms literals bs .answer ≡ Consistent → FinitelySatisfiable (termsOf terms) (literalsOf literals)
-  consistent-satisfiable e = let c = came-consistent terms literals bs e in apart-finite terms literals (c .carried .checks) (c .state) (c .carried) (c .apart)
+  -- "A refusal has the number and place of document 01, comes only where 01 says, and changes no output byte."
+  demand-1 : {r : Returned} → Way terms literals bs r → r ≡ judged terms literals bs → Demand1 terms literals bs r
+  demand-1 {r} (refused-way m q x e) same =
+      record {
+        refusal-exactly = λ n p. (
+            λ z. let one : numbersOf (Refused m q) ≡ numbersOf (Refused n p) = sym (ap (λ (y : Returned). y .numbers) e) ∙ z in
+            subst₂ (Refuses (rowsOf terms literals bs)) (ap (λ (y : Numbers). y .number) one) (ap (λ (y : Numbers). y .place) one) x,
+            λ z. ap (λ (y : Returned). y .numbers) (same ∙ refusal-given terms literals bs n p z));
+        refused-changes-nothing = λ n p z. ap (λ (y : Returned). y .buffers) e;
+      }
+  demand-1 {r} (answered-way st o good v e) same =
+      let never : (n p : ℕ) → r .numbers ≡ numbersOf (Refused n p) → ⊥ = λ n p z. answered-refused ts ls bs st o (sym (ap (λ (y : Returned). y .numbers) e) ∙ z) in
+      record {
+        refusal-exactly = λ n p. (λ z. absurd (never n p z), λ z. ap (λ (y : Returned). y .numbers) (same ∙ refusal-given terms literals bs n p z));
+        refused-changes-nothing = λ n p z. absurd (never n p z);
+      }
 
-  -- demand 2: inconsistent is right, over any non-empty domain
-  pub inconsistent-unsatisfiable : (d a k : ℕ) → judged terms literals bs .answer ≡ Inconsistent d a k → Satisfiable (termsOf terms) (literalsOf literals) → ⊥
-  inconsistent-unsatisfiable d a k e = let c = came-inconsistent terms literals bs d a k e in critical-never terms literals (c .carried .checks) (c .state) (c .carried) d (c .found)
+  module _ (good : checked terms literals ≡ Sound) where
+    lower : LowerArguments (termsOf terms)
+    lower = lower-arguments terms literals (sound terms literals good)
 
-  -- demand 2: "Otherwise it answers consistent exactly when some interpretation over a finite, non-empty domain satisfies A and B"
-  pub consistent-exactly : ((n p : ℕ) → judged terms literals bs .answer ≡ Refused n p → ⊥) → (judged terms literals bs .answer ≡ Consistent) ↔ FinitelySatisfiable (termsOf terms) (literalsOf literals)
-  consistent-exactly not-refused = (consistent-satisfiable, λ s. go (judged terms literals bs .answer) refl s)
-    where
-      go : (x : Answer) → judged terms literals bs .answer ≡ x → FinitelySatisfiable (termsOf terms) (literalsOf literals) → judged terms literals bs .answer ≡ Consistent
-      go Consistent e s = e
-      go (Inconsistent d a k) e s = absurd (inconsistent-unsatisfiable d a k e (s .0, s .2, s .3))
-      go (Refused n p) e s = absurd (not-refused n p e)
+    within : SidesWithin (termsOf terms) (literalsOf literals)
+    within = sides-within terms literals (sound terms literals good)
 
-  -- what the partition holds where the answer is consistent
-  module _ (consistent : judged terms literals bs .answer ≡ Consistent) where
-    came : CameConsistent terms literals bs (judged terms literals bs)
-    came = came-consistent terms literals bs consistent
+    few : length (termsOf terms) ≤ 256
+    few = subst (λ (n : ℕ). n ≤ 256) (sym (length-termsOf terms)) (sound terms literals good .terms-fit)
 
-    -- the class number that the call writes for a given term
-    class : (t : ℕ) → t < length (termsOf terms) → classAt (judged terms literals bs .buffers .partition) t ≡ classNumber (termsOf terms) (literalsOf literals) (came .state .graph) t
-    class t h = ap (λ (buffer : List ℕ). classAt buffer t) (came .partition) ∙ partition-read (termsOf terms) (literalsOf literals) (came .state .graph) (bs .partition) t (few terms literals (came .carried .checks)) h
-
-    used-in : (t : ℕ) → T (inUse (termsOf terms) (literalsOf literals) t) → t < length (termsOf terms)
-    used-in t h = inUse-within (termsOf terms) (literalsOf literals) (lower terms literals (came .carried .checks)) (within terms literals (came .carried .checks)) t h
-
-    -- two terms in use have one class number exactly when the run has joined them
-    class-means : (u v : ℕ) → T (inUse (termsOf terms) (literalsOf literals) u) → T (inUse (termsOf terms) (literalsOf literals) v) → (classAt (judged terms literals bs .buffers .partition) u ≡ classAt (judged terms literals bs .buffers .partition) v) ↔ T (joined (came .state .graph) u v)
-    class-means u v hu hv =
-        let x = class-joined (termsOf terms) (literalsOf literals) (came .state .graph) u v (used-in u hu) (used-in v hv) hu hv in
-        (λ e. x .0 (sym (class u (used-in u hu)) ∙ e ∙ class v (used-in v hv)), λ j. class u (used-in u hu) ∙ x .1 j ∙ sym (class v (used-in v hv)))
-
-    -- demand 2: "two terms in use share a class exactly when every interpretation that satisfies the equalities gives them one value"
-    pub classes-exactly : (u v : ℕ) → T (inUse (termsOf terms) (literalsOf literals) u) → T (inUse (termsOf terms) (literalsOf literals) v) → (classAt (judged terms literals bs .buffers .partition) u ≡ classAt (judged terms literals bs .buffers .partition) v) ↔ Entailed (termsOf terms) (literalsOf literals) u v
-    classes-exactly u v hu hv =
-        let good = came .carried .checks in
-        let x = runs.joined-entailed (termsOf terms) (literalsOf literals) (lower terms literals good) (within terms literals good) (own-run-allowed terms literals good (came .state) (came .carried) .1) (own-run-ended terms literals good (came .state) (came .carried)) u v hu hv in
-        (λ e. x .0 (class-means u v hu hv .0 e), λ z. class-means u v hu hv .1 (x .1 z))
-
-    -- demand 2: the same over finite domains alone
-    pub classes-finitely : (u v : ℕ) → T (inUse (termsOf terms) (literalsOf literals) u) → T (inUse (termsOf terms) (literalsOf literals) v) → (classAt (judged terms literals bs .buffers .partition) u ≡ classAt (judged terms literals bs .buffers .partition) v) ↔ FinitelyEntailed (termsOf terms) (literalsOf literals) u v
-    classes-finitely u v hu hv =
-        let good = came .carried .checks in
-        let x = runs.joined-finitely (termsOf terms) (literalsOf literals) (lower terms literals good) (within terms literals good) (own-run-allowed terms literals good (came .state) (came .carried) .1) (own-run-ended terms literals good (came .state) (came .carried)) u v hu hv in
-        (λ e. x .0 (class-means u v hu hv .0 e), λ z. class-means u v hu hv .1 (x .1 z))
-
-    -- "the lowest number of a given term in its class": it is a given term in use of that class, and no lower one is
-    pub class-is-lowest : (t : ℕ) → T (inUse (termsOf terms) (literalsOf literals) t) → LowestInClass (termsOf terms) (literalsOf literals) (judged terms literals bs .buffers .partition) t
-    class-is-lowest t h =
-        let c = classAt (judged terms literals bs .buffers .partition) t in
-        let first = subst (First (inClass (termsOf terms) (literalsOf literals) (came .state .graph) t) (length (termsOf terms))) (sym (class t (used-in t h))) (class-lowest (termsOf terms) (literalsOf literals) (came .state .graph) t (used-in t h) h) in
-        let used = and-left (inUse (termsOf terms) (literalsOf literals) c) (joined (came .state .graph) c t) (first .passes) in
+    -- of a call that is not refused
+    demand-2 : (st : State) (o : Option ℕ) → Verdict ts ls st o → Demand2 ts ls bs (answered ts ls bs st o)
+    demand-2 st none v =
         record {
-          in-use = used;
-          in-class = class-means c t used h .1 (and-right (inUse (termsOf terms) (literalsOf literals) c) (joined (came .state .graph) c t) (first .passes));
-          none-lower = λ u w hu e. first .none-before u w (and-both (inUse (termsOf terms) (literalsOf literals) u) (joined (came .state .graph) u t) hu (class-means u t hu h .0 e));
+          consistent-exactly = (λ e. apart-finite ts ls lower within st v, λ s. refl);
+          inconsistent-unsatisfiable = λ d a k e. absurd (consistent-inconsistent e);
+          classes = λ e. classes-held ts ls lower within few st v bs;
+          bytes = (st, none, v, refl);
+        }
+    demand-2 st (some d) v =
+        let never : Satisfiable ts ls → ⊥ = critical-never ts ls lower within st d v in
+        record {
+          consistent-exactly = (λ e. absurd (consistent-inconsistent (sym e)), λ s. absurd (never (s .0, s .2, s .3)));
+          inconsistent-unsatisfiable = λ x a k e. never;
+          classes = λ e. absurd (consistent-inconsistent (sym e));
+          bytes = (st, some d, v, refl);
         }
 
-    -- "a term not in use gets 65535"
-    pub idle-class : (t : ℕ) → t < length (termsOf terms) → T (not (inUse (termsOf terms) (literalsOf literals) t)) → classAt (judged terms literals bs .buffers .partition) t ≡ 65535
-    idle-class t w h = class t w ∙ class-idle (termsOf terms) (literalsOf literals) (came .state .graph) t h
+    -- demand 3 on the bytes that come back
+    returned-summarises : AllBytes terms → (st : State) (d : ℕ) → Verdict ts ls st (some d) → (a k : ℕ) → a ≡ length (st .added) → k ≡ length (recordsIn ts ls st (literalAt ls d)) → Summarises ts ls (termsOf (terms ++ take (16 * a) (answered ts ls bs st (some d) .buffers .added))) (clausesRead k (answered ts ls bs st (some d) .buffers .clauses))
+    unfolding writtenOver recordsIn
+    returned-summarises all-bytes st d v a k added-count record-count =
+        let r = run ts ls lower within st v in
+        let s = run-sound ts ls lower within r in
+        let x = critical-found ls (st .graph) d (v .found) in
+        let many : length (tableOf ts st) ≤ 511 = omega (arith, length-append ts (st .added), few, few-added ts ls lower within few r) in
+        let rest = drop (length (clauseBytesOf ts ls st d)) (bs .clauses) in
+        let written = written-summarises ts (st .added) ls (s .lower) within (st .graph) (s .edges) (literalAt ls d) (x .stands) (x .differs) (x .meets) many rest in
+        let taken : take (16 * a) (answered ts ls bs st (some d) .buffers .added) ≡ addedBytes (st .added) = take-at (addedBytes (st .added)) (drop (length (addedBytes (st .added))) (bs .added)) (16 * a) (addedBytes-length (st .added) ∙ ap (λ (n : ℕ). 16 * n) (sym added-count)) in
+        let table : termsOf (terms ++ take (16 * a) (answered ts ls bs st (some d) .buffers .added)) ≡ tableOf ts st = ap (λ (l : List ℕ). termsOf (terms ++ l)) taken ∙ table-read terms (st .added) (sound terms literals good .terms-whole) (λ m stands. added-fits terms literals (sound terms literals good) all-bytes r m stands) in
+        let clauses : clausesRead k (answered ts ls bs st (some d) .buffers .clauses) ≡ clausesRead (length (recordsIn ts ls st (literalAt ls d))) (clauseBytesOf ts ls st d ++ rest) = ap (λ (n : ℕ). clausesRead n (clauseBytesOf ts ls st d ++ rest)) record-count in
+        subst₂ (λ (t : List Term) (cs : List Clause). Summarises ts ls t cs) (sym table) (sym clauses) written
 
-  -- demand 3 on the bytes that come back: the clauses read from the clause buffer, over the given terms and those read from the added buffer, are a
-  -- summary; the tables are bytes
-  pub returned-summarises : AllBytes terms → (d a k : ℕ) → judged terms literals bs .answer ≡ Inconsistent d a k → Summarises (termsOf terms) (literalsOf literals) (termsOf (terms ++ take (16 * a) (judged terms literals bs .buffers .added))) (clausesRead k (judged terms literals bs .buffers .clauses))
-  unfolding writtenOver recordsIn
-  returned-summarises bytes d a k e =
-      let c = came-inconsistent terms literals bs d a k e in
-      let good = c .carried .checks in
-      let st = c .state in
-      let run = own-run-allowed terms literals good st (c .carried) .1 in
-      let s = run-sound (termsOf terms) (literalsOf literals) (lower terms literals good) (within terms literals good) run in
-      let x = critical-found (literalsOf literals) (st .graph) d (c .found) in
-      let many : length (tableOf (termsOf terms) st) ≤ 511 = omega (arith, length-append (termsOf terms) (st .added), few terms literals good, few-added (termsOf terms) (literalsOf literals) (lower terms literals good) (within terms literals good) (few terms literals good) run) in
-      let rest = drop (length (clauseBytesOf (termsOf terms) (literalsOf literals) st d)) (bs .clauses) in
-      let written = written-summarises (termsOf terms) (st .added) (literalsOf literals) (s .lower) (within terms literals good) (st .graph) (s .edges) (literalAt (literalsOf literals) d) (x .stands) (x .differs) (x .meets) many rest in
-      let taken : take (16 * a) (judged terms literals bs .buffers .added) ≡ addedBytes (st .added) = ap (λ (l : List ℕ). take (16 * a) l) (c .added) ∙ take-at (addedBytes (st .added)) (drop (length (addedBytes (st .added))) (bs .added)) (16 * a) (addedBytes-length (st .added) ∙ ap (λ (n : ℕ). 16 * n) (sym (c .added-count))) in
-      let table : termsOf (terms ++ take (16 * a) (judged terms literals bs .buffers .added)) ≡ tableOf (termsOf terms) st = ap (λ (l : List ℕ). termsOf (terms ++ l)) taken ∙ table-read terms (st .added) (sound terms literals good .terms-whole) (λ m stands. added-fits terms literals (sound terms literals good) bytes run m stands) in
-      let clauses : clausesRead k (judged terms literals bs .buffers .clauses) ≡ clausesRead (length (recordsIn (termsOf terms) (literalsOf literals) st (literalAt (literalsOf literals) d))) (clauseBytesOf (termsOf terms) (literalsOf literals) st d ++ rest) = ap₂ clausesRead (c .record-count) (c .clauses) in
-      subst₂ (λ (t : List Term) (cs : List Clause). Summarises (termsOf terms) (literalsOf literals) t cs) (sym table) (sym clauses) written
+    -- of an answer
+    returned : AllBytes terms → (st : State) (o : Option ℕ) → Verdict ts ls st o → (d a k : ℕ) → answered ts ls bs st o .numbers ≡ numbersOf (Inconsistent d a k) → Summarises ts ls (termsOf (terms ++ take (16 * a) (answered ts ls bs st o .buffers .added))) (clausesRead k (answered ts ls bs st o .buffers .clauses))
+    returned all-bytes st none v d a k e = absurd (consistent-inconsistent e)
+    returned all-bytes st (some x) v d a k e =
+        returned-summarises all-bytes st x v a k
+        (sym (ap (λ (y : Numbers). y .added) e) ∙ length-map (st .added) termBytes)
+        (sym (ap (λ (y : Numbers). y .records) e))
 
--- ---- the demands
+  -- the demands, by the way that the call went
+  demanded : AllBytes terms → {r : Returned} → Way terms literals bs r → r ≡ judged terms literals bs → Demands terms literals bs r
+  demanded all-bytes {r} w same = go w
+    where
+      third : Accepted terms literals → Demand3 ts ls
+      third a = let good = sound-exactly terms literals .1 a in demand-3 ts ls (lower good) (within good)
 
-pub demand-1 : (terms literals : List ℕ) (bs : Buffers) → Demand1 terms literals bs
-demand-1 terms literals bs = record { refusal-exactly = refusal-exactly terms literals bs; refused-changes-nothing = refused-changes-nothing terms literals bs }
+      go : Way terms literals bs r → Demands terms literals bs r
+      go (refused-way n p x e) =
+          record {
+            demand-1 = demand-1 (refused-way n p x e) same;
+            demand-2 = λ not-refused. absurd (not-refused n p (ap (λ (y : Returned). y .numbers) e));
+            demand-3 = third;
+            returned-summarises = λ d a k z. absurd (inconsistent-refused (sym z ∙ ap (λ (y : Returned). y .numbers) e));
+          }
+      go (answered-way st o good v e) =
+          record {
+            demand-1 = demand-1 (answered-way st o good v e) same;
+            demand-2 = λ not-refused. subst (Demand2 ts ls bs) (sym e) (demand-2 good st o v);
+            demand-3 = third;
+            returned-summarises = λ d a k z. subst (λ (y : Returned). Summarises ts ls (termsOf (terms ++ take (16 * a) (y .buffers .added))) (clausesRead k (y .buffers .clauses))) (sym e) (returned good all-bytes st o v d a k (sym (ap (λ (y : Returned). y .numbers) e) ∙ z));
+          }
 
-pub demand-2 : (terms literals : List ℕ) (bs : Buffers) → Demand2 terms literals bs
-demand-2 terms literals bs =
-    record {
-      consistent-exactly = consistent-exactly terms literals bs;
-      inconsistent-unsatisfiable = inconsistent-unsatisfiable terms literals bs;
-      classes = λ e. record { classes-exactly = classes-exactly terms literals bs e; classes-finitely = classes-finitely terms literals bs e; class-is-lowest = class-is-lowest terms literals bs e; idle-class = idle-class terms literals bs e };
-    }
+-- ---- the promise
 
-pub demand-3 : (terms literals : List ℕ) → checked terms literals ≡ Sound → Demand3 terms literals
-demand-3 terms literals good =
-    record {
-      run-ends = λ run. run-ends terms literals good run;
-      runs-agree = λ run done run′ done′. runs-agree terms literals good run done run′ done′;
-      run-summarises = λ run. run-summarises terms literals good run;
-      own-run-allowed = own-run-allowed terms literals good;
-      own-run-ended = own-run-ended terms literals good;
-    }
+-- Every call keeps the three demands. The contracts of `split` and of `anahruyk_split` say `Called` of what they return and of the buffers that they
+-- are lent, for all inputs.
+pub promised : (terms literals : List ℕ) (bs : Buffers) (r : Returned) → Called terms literals bs r → Demands terms literals bs r
+promised terms literals bs r c = demanded terms literals bs (c .term-bytes) (subst (Way terms literals bs) (sym (c .returned)) (way terms literals bs)) (c .returned)
 
-pub demand-3-returned : (terms literals : List ℕ) (bs : Buffers) → Demand3Returned terms literals bs
-demand-3-returned = returned-summarises
+-- The demands settle all that comes back: the numbers, and every byte of the buffers. So a reader of them need not read `judged`.
+pub settled : (terms literals : List ℕ) (bs : Buffers) (r : Returned) → Demands terms literals bs r → r ≡ judged terms literals bs
+settled terms literals bs r x = go (way terms literals bs)
+  where
+    both : {y : Returned} → r .numbers ≡ y .numbers → r .buffers ≡ y .buffers → r ≡ y
+    both e f = λ i. record { numbers = e i; buffers = f i }
+
+    go : Way terms literals bs (judged terms literals bs) → r ≡ judged terms literals bs
+    go (refused-way n p z e) =
+        let named = x .demand-1 .refusal-exactly n p .1 z in
+        both named (x .demand-1 .refused-changes-nothing n p named) ∙ sym e
+    go (answered-way st o good v e) =
+        let ts = termsOf terms in
+        let ls = literalsOf literals in
+        let never : (n p : ℕ) → r .numbers ≡ numbersOf (Refused n p) → ⊥ = λ n p z. answered-refused ts ls bs st o (ap (λ (y : Returned). y .numbers) (sym e ∙ refusal-given terms literals bs n p (x .demand-1 .refusal-exactly n p .0 z))) in
+        let b = x .demand-2 never .bytes in
+        let same-state : b .0 ≡ st = one-some (sym (b .2 .last) ∙ v .last) in
+        let same-end : b .1 ≡ o = sym (b .2 .found) ∙ ap (λ (s : State). critical ls (s .graph)) same-state ∙ v .found in
+        b .3 ∙ ap₂ (answered ts ls bs) same-state same-end ∙ sym e
+      where
+        one-some : {s t : State} → some s ≡ some t → s ≡ t
+        one-some q = cc

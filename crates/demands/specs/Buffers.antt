@@ -1,10 +1,10 @@
 -- 01, "What comes back": the bytes that an answer writes.
-use mathlib.Core.Bool.{Bool, cond, _&&_}
+use mathlib.Core.Bool.{cond, _&&_}
 use mathlib.Core.List.{List, [], _∷_, _++_, flatMap}
 use mathlib.Core.Option.{Option·getD}
 use mathlib.Core.Path.{_≡_}
 use Prim.Native.Nat.{ℕ, _<_}
-use lib.Dec.{T, ltb}
+use lib.Dec.{T}
 use lib.ListN.{length, take, drop}
 use Rattle.tables.specs.Words.{below, firstBelow}
 use Rattle.tables.specs.Bytes.{wordAt, recordAt, wordBytes}
@@ -12,6 +12,18 @@ use Rattle.tables.specs.Terms.{Term}
 use Rattle.tables.specs.LiteralTable.{Literal}
 use Rattle.tables.specs.Colours.{inUse}
 use Rattle.closure.specs.Graph.{Graph, joined}
+use Rattle.demands.specs.declared.Numbers.{Numbers}
+
+-- the three lent buffers, as bytes
+pub record Buffers : Type 0 where
+  pub partition : List ℕ
+  pub added : List ℕ
+  pub clauses : List ℕ
+
+-- what comes back: the answer's numbers, and every byte of the buffers
+pub record Returned : Type 0 where
+  pub numbers : Numbers
+  pub buffers : Buffers
 
 -- "the lowest number of a given term in its class; a term not in use gets 65535"
 unfoldable pub classNumber : List Term → List Literal → Graph → ℕ → ℕ
@@ -36,10 +48,6 @@ termBytes m =
 -- "bytes past those written .. keep their content"
 unfoldable pub writtenOver : List ℕ → List ℕ → List ℕ
 writtenOver bytes buffer = bytes ++ drop (length bytes) buffer
-
--- row 7: "an output buffer is too short for this answer"
-unfoldable pub tooShort : List ℕ → List ℕ → Bool
-tooShort bytes buffer = ltb (length buffer) (length bytes)
 
 -- what a reader of the partition buffer takes for the class number of term t
 abbrev pub classAt : List ℕ → ℕ → ℕ

@@ -1,60 +1,46 @@
--- The whole call: the two tables and the three lent buffers as bytes, and all that comes back. 01's rows in their order.
-use mathlib.Core.Bool.{cond}
+-- The whole call as a procedure: the two tables and the three lent buffers as bytes, and all that comes back. 01's rows in their order. Demands says
+-- the same without a procedure, and proofs/Promises shows that it settles all of it.
+use mathlib.Core.Bool.{Bool, cond}
 use mathlib.Core.List.{List, map, flatMap}
 use mathlib.Core.Option.{Option, some, none}
+use mathlib.Core.Path.{_≡_}
 use Prim.Native.Nat.{ℕ}
-use lib.Dec.{eqb}
+use lib.Dec.{eqb, ltb}
 use lib.ListN.{length}
+use Rattle.tables.specs.Bytes.{AllBytes}
 use Rattle.tables.specs.Terms.{Term}
 use Rattle.tables.specs.TermTable.{termsOf}
 use Rattle.tables.specs.LiteralTable.{Literal, literalsOf}
 use Rattle.tables.specs.Checks.{checked, numberOf, placeIn}
 use Rattle.tables.specs.declared.Check.{Check}
-use Rattle.closure.specs.Steps.{State, tableOf}
+use Rattle.closure.specs.Steps.{State}
 use Rattle.closure.specs.OwnRun.{ownRun}
-use Rattle.clauses.specs.Reading.{literalAt, critical, summary}
-use Rattle.clauses.specs.Records.{clauseRecords}
-use Rattle.demands.specs.declared.Answer.{Answer}
-use Rattle.demands.specs.declared.Answer.the-variants.{Consistent, Inconsistent, Refused}
-use Rattle.demands.specs.Buffers.{partitionBytes, termBytes, writtenOver, tooShort}
-
--- the three lent buffers, as bytes
-pub record Buffers : Type 0 where
-  pub partition : List ℕ
-  pub added : List ℕ
-  pub clauses : List ℕ
-
--- what comes back: the answer, and every byte of the buffers
-pub record Returned : Type 0 where
-  pub answer : Answer
-  pub buffers : Buffers
+use Rattle.clauses.specs.Reading.{literalAt, critical}
+use Rattle.demands.specs.declared.Answer.the-variants.{Refused}
+use Rattle.demands.specs.Answers.{numbersOf}
+use Rattle.demands.specs.Buffers.{Buffers, Returned, partitionBytes, termBytes, writtenOver}
+use Rattle.demands.specs.Verdicts.{recordsIn, withClasses, withSummary}
 
 -- "A refusal returns its number and place .. and it changes no output byte."
 abbrev pub refused : Buffers → ℕ → ℕ → Returned
-refused bs number place = record { answer = Refused number place; buffers = bs }
+refused bs number place = record { numbers = numbersOf (Refused number place); buffers = bs }
 
--- "Consistent: the partition buffer's first 2n bytes hold .."; "Room is judged after the verdict and only for the buffers that this verdict fills"
+-- row 7: "an output buffer is too short for this answer"
+unfoldable pub tooShort : List ℕ → List ℕ → Bool
+tooShort bytes buffer = ltb (length buffer) (length bytes)
+
+-- consistent: "Room is judged after the verdict and only for the buffers that this verdict fills"
 unfoldable pub consistent : Buffers → List ℕ → Returned
 unfolding tooShort writtenOver
-consistent bs classes =
-    cond (tooShort classes (bs .partition)) (refused bs 7 0)
-    (record { answer = Consistent; buffers = record { partition = writtenOver classes (bs .partition); added = bs .added; clauses = bs .clauses } })
+consistent bs classes = cond (tooShort classes (bs .partition)) (refused bs 7 0) (withClasses bs classes)
 
--- "Inconsistent: the answer carries the number of the disequality, the count of added terms and the count of clause records; the added terms .. and
--- the clause records are written"; room: "the lower place first"
+-- inconsistent: room, "the lower place first"
 unfoldable pub inconsistent : Buffers → ℕ → List (List ℕ) → List (List ℕ) → Returned
 unfolding tooShort writtenOver flatMap
 inconsistent bs disequality added records =
-    let terms = flatMap (λ r. r) added in
-    let clauses = flatMap (λ r. r) records in
-    cond (tooShort terms (bs .added)) (refused bs 7 1)
-    (cond (tooShort clauses (bs .clauses)) (refused bs 7 2)
-    (record { answer = Inconsistent disequality (length added) (length records); buffers = record { partition = bs .partition; added = writtenOver terms (bs .added); clauses = writtenOver clauses (bs .clauses) } }))
-
--- the summary's clause records in a state: those of the literal, over all given and added terms
-unfoldable pub recordsIn : List Term → List Literal → State → Literal → List (List ℕ)
-unfolding clauseRecords summary
-recordsIn ts ls st l = clauseRecords (length (tableOf ts st)) (summary ts ls (tableOf ts st) (st .graph) l)
+    cond (tooShort (flatMap (λ r. r) added) (bs .added)) (refused bs 7 1)
+    (cond (tooShort (flatMap (λ r. r) records) (bs .clauses)) (refused bs 7 2)
+    (withSummary bs disequality added records))
 
 -- the verdict: consistent, or inconsistent by the critical disequality
 unfoldable pub verdict : Buffers → List Term → List Literal → State → Option ℕ → Returned
@@ -81,3 +67,9 @@ judged terms literals bs =
     let ls = literalsOf literals in
     let next = ended bs ts ls (ownRun ts ls) in
     afterChecks bs (checked terms literals) next
+
+-- what every contract of the call says: all that comes back is that of the definition. The tables are byte slices, so their entries are bytes.
+pub record Called (terms literals : List ℕ) (bs : Buffers) (r : Returned) : Type 0 where
+  pub returned : r ≡ judged terms literals bs
+  pub term-bytes : AllBytes terms
+  pub literal-bytes : AllBytes literals

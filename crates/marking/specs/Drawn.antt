@@ -6,7 +6,8 @@ use mathlib.Core.Path.{_≡_}
 use Prim.Native.Nat.{ℕ, _+_, _*_, _≤_, _<_}
 use lib.ListN.{length, getD}
 use Rattle.tables.specs.Words.{Pair}
-use Rattle.tables.specs.Terms.{Term, termAt, LowerArguments}
+use Rattle.tables.specs.Terms.{Term, termAt}
+use Rattle.tables.specs.Parts.{LowerArguments}
 use Rattle.tables.specs.LiteralTable.{Literal}
 use Rattle.closure.specs.declared.Edge.{Edge}
 use Rattle.closure.specs.declared.EdgeKind.{EdgeKind}

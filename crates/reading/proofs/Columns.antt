@@ -7,9 +7,11 @@ use Prim.Native.Nat.{ℕ, _+_, _≤_, _<_}
 use native.Mathlib.Omega.{arith}
 use lib.Dec.{T, eqb, eqb→eq, eqb-refl}
 use lib.ListN.{length, getD, take}
-use Rattle.tables.specs.Words.{below, every, someBelow}
+use Rattle.tables.specs.Words.{below, every}
+use Rattle.tables.specs.Tests.{someBelow}
 use Rattle.tables.specs.Bytes.{byteAt, wordAt}
-use Rattle.tables.specs.Terms.{Term, termAt, parts, symbols, Part}
+use Rattle.tables.specs.Terms.{Term, termAt, parts, symbols}
+use Rattle.tables.specs.Parts.{Part}
 use Rattle.tables.specs.TermTable.{termCount, termRecord, symbolField, arityField, rowOf, termOf, termsOf}
 use Rattle.tables.specs.LiteralTable.{Literal, literalCount, literalRecord, literalOf, literalsOf}
 use Rattle.tables.specs.declared.Side.{Side}

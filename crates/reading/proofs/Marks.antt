@@ -12,10 +12,12 @@ use lib.Seq.{getD-set-same, getD-set-other, getD-take, length-take-le}
 use Rattle.reading.specs.declared.literal.Fields.{Fields}
 use Rattle.reading.specs.Fields.{fieldsOf}
 use Rattle.reading.specs.Marks.{argumentsIn, Marked, LowerRows, Closed, Describes, MarkedToo, StandsIn, Inside, markedAndMissing}
-use Rattle.tables.specs.Words.{every, someBelow}
+use Rattle.tables.specs.Words.{every}
+use Rattle.tables.specs.Tests.{someBelow}
 use Rattle.tables.specs.Bytes.{byteAt, wordAt}
 use Rattle.tables.specs.LiteralTable.{literalRecord}
-use Rattle.tables.specs.Terms.{Term, parts, Part, itself, deeper, LowerArguments}
+use Rattle.tables.specs.Terms.{Term, parts}
+use Rattle.tables.specs.Parts.{Part, itself, deeper, LowerArguments}
 use Rattle.tables.proofs.Words.{and-left, and-right, and-both, decide, passes, by-test, same-test, getD-mem, mem-getD, below-or-is, every-all, all-every, someBelow-some, some-someBelow}
 use Rattle.tables.proofs.Terms.{mem-part, part-mem, part-le}
 

@@ -8,7 +8,8 @@ use lib.Dec.{T, eqb}
 use lib.ListN.{length, getD, take}
 use Rattle.tables.specs.Words.{every}
 use Rattle.tables.specs.Bytes.{byteAt, wordAt}
-use Rattle.tables.specs.Terms.{Term, termAt, parts, Part}
+use Rattle.tables.specs.Terms.{Term, termAt, parts}
+use Rattle.tables.specs.Parts.{Part}
 use Rattle.tables.specs.LiteralTable.{literalCount, literalRecord}
 
 -- the arguments of term t: as many of its row as its arity says

@@ -6,7 +6,7 @@ ghost use mathlib.Core.List.{List};
 ghost use mathlib.Core.Path.{_≡_};
 ghost use Prim.Native.Nat.{_+_, _≤_, _<_};
 ghost use lib.ListN.{length, getD};
-ghost use Rattle.tables.specs.Words.{someBelow};
+ghost use Rattle.tables.specs.Tests.{someBelow};
 ghost use Rattle.tables.specs.Terms.{Term};
 ghost use Rattle.tables.specs.LiteralTable.{literalCount};
 ghost use Rattle.reading.specs.Marks.{LowerRows, Markable, Describes, MarkedToo, LiteralsWithin, Inside, sameSymbolInside, markedAndMissing, partsColour};

@@ -7,7 +7,8 @@ ghost use mathlib.Core.Path.{_≡_};
 ghost use Prim.Native.Nat.{_+_, _*_, _≤_};
 ghost use lib.ListN.{length};
 ghost use Rattle.tables.specs.Words.{firstBelow};
-ghost use Rattle.tables.specs.LiteralTable.{literalCount, literalRecord, notOneOrTwo, breaksLiteral};
+ghost use Rattle.tables.specs.LiteralTable.{literalCount, literalRecord};
+ghost use Rattle.tables.specs.Tests.{notOneOrTwo, breaksLiteral};
 ghost use Rattle.tables.specs.Checks.{foundOf};
 
 // The bytes of literal record k, so that a field is read at its own offset.

@@ -10,7 +10,8 @@ use lib.Dec.{T, eqb, ltb}
 use lib.ListN.{length, getD, take, set, replicate, length-append, List·getD-append}
 use lib.Seq.{getD-at, take-append-seam}
 use Rattle.tables.specs.Words.{every}
-use Rattle.tables.specs.Terms.{Term, noTerm, termAt, LowerArguments, symbols}
+use Rattle.tables.specs.Terms.{Term, noTerm, termAt, symbols}
+use Rattle.tables.specs.Parts.{LowerArguments}
 use Rattle.tables.specs.LiteralTable.{Literal}
 use Rattle.tables.specs.declared.Side.{Side}
 use Rattle.tables.specs.declared.Side.the-variants.{A, B}

@@ -7,7 +7,8 @@ use mathlib.Core.Path.{_≡_}
 use Prim.Native.Nat.{ℕ, _%_, _≤_, _<_}
 use lib.Dec.{T, eqb, leb}
 use lib.ListN.{length}
-use Rattle.tables.specs.Terms.{Term, termAt, LowerArguments}
+use Rattle.tables.specs.Terms.{Term, termAt}
+use Rattle.tables.specs.Parts.{LowerArguments}
 use Rattle.tables.specs.LiteralTable.{Literal}
 use Rattle.tables.specs.declared.Side.the-variants.{A, B}
 use Rattle.tables.specs.Colours.{colourable, shared}

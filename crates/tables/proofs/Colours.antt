@@ -8,7 +8,8 @@ use native.Mathlib.Omega.{arith}
 use lib.Dec.{T}
 use lib.ListN.{length}
 use Rattle.tables.specs.Words.{every, among}
-use Rattle.tables.specs.Terms.{Term, termAt, parts, symbols, Part, itself, deeper, LowerArguments}
+use Rattle.tables.specs.Terms.{Term, termAt, parts, symbols}
+use Rattle.tables.specs.Parts.{Part, itself, deeper, LowerArguments}
 use Rattle.tables.specs.LiteralTable.{Side, A, B, sameSide, Literal}
 use Rattle.tables.specs.Colours.{inUse, occursIn, colourable}
 use Rattle.tables.proofs.Words.{and-left, and-right, and-both, any-some, some-any, every-all, all-every, among-mem, mem-among}

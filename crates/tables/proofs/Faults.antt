@@ -6,37 +6,33 @@ use mathlib.Core.Path.{_≡_, refl, subst}
 use Prim.Native.Nat.{ℕ, zero, suc, _+_, _-_, _*_, _≤_, _<_}
 use native.Mathlib.Omega.{arith}
 use lib.Dec.{T, eqb, ltb, leb, eqb→eq, ltb→lt, lt→ltb, leb→le, le→leb}
-use Rattle.tables.specs.Words.{every, same, someBelow}
+use Rattle.tables.specs.Words.{every, same}
+use Rattle.tables.specs.Tests.{someBelow}
 use Rattle.tables.specs.Bytes.{byteAt, wordAt}
-use Rattle.tables.specs.TermTable.{termRecord, symbolField, arityField, argumentField, arityWrong, spareWrong, notLower, unusedNotZero, breaksLayout, otherArity, hadOtherArity, equalRecords, equalsEarlier}
-use Rattle.tables.specs.LiteralTable.{literalRecord, notOneOrTwo, breaksLiteral}
+use Rattle.tables.specs.TermTable.{termRecord, symbolField, arityField, argumentField}
+use Rattle.tables.specs.Tests.{arityWrong, spareWrong, notLower, unusedNotZero, breaksLayout, otherArity, hadOtherArity, equalRecords, equalsEarlier}
+use Rattle.tables.specs.LiteralTable.{literalRecord}
+use Rattle.tables.specs.Rows.{LayoutFault, arity-over-four, byte-three, last-bytes, argument-not-lower, unused-not-zero, OtherArity, HadOtherArity, EqualsEarlier, LiteralFault, side-not-one-or-two, kind-not-one-or-two, left-not-in-table, right-not-in-table, byte-six, byte-seven}
+use Rattle.tables.specs.Tests.{notOneOrTwo, breaksLiteral}
 use Rattle.tables.proofs.Words.{every-all, or-left, or-right, decide, any-some, some-any, same-eq, same-self, someBelow-some, some-someBelow}
 use Rattle.tables.proofs.Tests.{eq-test, lt-test, le-test, not-test, ne-test, and-test, either, or-test, some-test}
 
 -- "a symbol had another arity in an earlier record"
-pub had-other-arity : (bs : List ℕ) (k : ℕ) → T (hadOtherArity bs k) ↔ ((j : ℕ) × (j < k) × ((symbolField (termRecord bs j) ≡ symbolField (termRecord bs k)) × (arityField (termRecord bs j) ≡ arityField (termRecord bs k) → ⊥)))
+pub had-other-arity : (bs : List ℕ) (k : ℕ) → T (hadOtherArity bs k) ↔ HadOtherArity bs k
 unfolding hadOtherArity otherArity
 had-other-arity bs k =
     some-test (otherArity bs k) k
-    (λ j. (symbolField (termRecord bs j) ≡ symbolField (termRecord bs k)) × (arityField (termRecord bs j) ≡ arityField (termRecord bs k) → ⊥))
+    (λ j. OtherArity (termRecord bs j) (termRecord bs k))
     (λ j.
     and-test (eqb (symbolField (termRecord bs j)) (symbolField (termRecord bs k))) (not (eqb (arityField (termRecord bs j)) (arityField (termRecord bs k)))) _ _
     (eq-test (symbolField (termRecord bs j)) (symbolField (termRecord bs k))) (ne-test (arityField (termRecord bs j)) (arityField (termRecord bs k))))
 
 -- "a term record equals an earlier one"
-pub equals-earlier : (bs : List ℕ) (k : ℕ) → T (equalsEarlier bs k) ↔ ((j : ℕ) × (j < k) × (termRecord bs j ≡ termRecord bs k))
+pub equals-earlier : (bs : List ℕ) (k : ℕ) → T (equalsEarlier bs k) ↔ EqualsEarlier bs k
 unfolding equalsEarlier equalRecords
 equals-earlier bs k =
     some-test (equalRecords bs k) k (λ j. termRecord bs j ≡ termRecord bs k)
     (λ j. (same-eq (termRecord bs j) (termRecord bs k), λ e. subst (λ (r : List ℕ). T (same (termRecord bs j) r)) e (same-self (termRecord bs j))))
-
--- how the bytes of term record k break the layout
-pub data LayoutFault (k : ℕ) (r : List ℕ) : Type 0 where
-  arity-over-four : 4 < arityField r → LayoutFault k r
-  byte-three : (byteAt r 3 ≡ 0 → ⊥) → LayoutFault k r
-  last-bytes : (i : ℕ) → 12 ≤ i → i < 16 → (byteAt r i ≡ 0 → ⊥) → LayoutFault k r
-  argument-not-lower : (j : ℕ) → j < 4 → j < arityField r → k ≤ argumentField r j → LayoutFault k r
-  unused-not-zero : (j : ℕ) → j < 4 → arityField r ≤ j → (argumentField r j ≡ 0 → ⊥) → LayoutFault k r
 
 -- "3 zero", "12-15 zero": the places of the spare bytes
 abbrev spares : List ℕ
@@ -129,15 +125,6 @@ module _ (k : ℕ) (r : List ℕ) where
 pub breaks-layout : (bs : List ℕ) (k : ℕ) → T (breaksLayout bs k) ↔ LayoutFault k (termRecord bs k)
 unfolding breaksLayout
 breaks-layout bs k = (broken-fault k (termRecord bs k), fault-broken k (termRecord bs k))
-
--- how the bytes of a literal record break row 6 in a table of n terms
-pub data LiteralFault (n : ℕ) (r : List ℕ) : Type 0 where
-  side-not-one-or-two : (byteAt r 0 ≡ 1 → ⊥) → (byteAt r 0 ≡ 2 → ⊥) → LiteralFault n r
-  kind-not-one-or-two : (byteAt r 1 ≡ 1 → ⊥) → (byteAt r 1 ≡ 2 → ⊥) → LiteralFault n r
-  left-not-in-table : n ≤ wordAt r 2 → LiteralFault n r
-  right-not-in-table : n ≤ wordAt r 4 → LiteralFault n r
-  byte-six : (byteAt r 6 ≡ 0 → ⊥) → LiteralFault n r
-  byte-seven : (byteAt r 7 ≡ 0 → ⊥) → LiteralFault n r
 
 -- "not 1 or 2"
 not-one-or-two-is : (b : ℕ) → T (notOneOrTwo b) ↔ ((b ≡ 1 → ⊥) × (b ≡ 2 → ⊥))

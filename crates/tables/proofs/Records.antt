@@ -10,10 +10,11 @@ use native.Mathlib.Omega.{arith}
 use lib.Dec.{T, not-T}
 use lib.ListN.{length, getD, take, drop, set, replicate, length-take, length-drop, length-map}
 use lib.Seq.{set-at, ext-getD}
-use Rattle.tables.specs.Words.{below, same, someBelow, orElse, firstBelow}
+use Rattle.tables.specs.Words.{below, any, same, firstBelow, firstOf}
+use Rattle.tables.specs.Tests.{someBelow}
 use Rattle.tables.specs.Bytes.{recordAt}
 use Rattle.tables.specs.Read.{filled}
-use Rattle.tables.proofs.Words.{passes, passed, failed, or-cases, or-left, or-right, same-test, same-eq, same-self, length-below, some-someBelow, someBelow-some, firstBelow-none, first-firstBelow}
+use Rattle.tables.proofs.Words.{passes, passed, failed, or-cases, or-left, or-right, same-test, same-eq, same-self, length-below, some-someBelow, someBelow-some, someBelow-more, firstBelow-none, firstOf-past, first-is}
 
 -- ---- records
 
@@ -44,7 +45,7 @@ module _ (p : ℕ → Bool) (n : ℕ) where
 
   -- below 0 there is none
   pub none-yet : NoneYet 0
-  unfolding someBelow
+  unfolding below any
   none-yet = (omega arith, refl)
 
   -- one number that passes settles it
@@ -53,8 +54,7 @@ module _ (p : ℕ → Bool) (n : ℕ) where
 
   -- a number that fails is passed over
   pub none-more : (i : ℕ) (b : Bool) → NoneYet i → i < n → b ≡ p i → b ≡ false → NoneYet (i + 1)
-  unfolding someBelow
-  none-more i b y h e t = (omega arith, ap (someBelow p) (add-one i) ∙ ap₂ (λ (a c : Bool). a || c) (y .1) (sym e ∙ t))
+  none-more i b y h e t = (omega arith, ap (someBelow p) (add-one i) ∙ someBelow-more p i ∙ ap₂ (λ (a c : Bool). a || c) (y .1) (sym e ∙ t))
 
   -- all were passed over
   pub none-passed : (i : ℕ) → NoneYet i → n ≤ i → false ≡ someBelow p n
@@ -66,13 +66,12 @@ module _ (p : ℕ → Bool) (n : ℕ) where
 
   -- below 0 there is none
   pub so-far : SoFar 0 false
-  unfolding someBelow
+  unfolding below any
   so-far = (omega arith, refl)
 
   -- one number more
   pub so-far-more : (i : ℕ) (b : Bool) → SoFar i b → i < n → SoFar (i + 1) (b || p i)
-  unfolding someBelow
-  so-far-more i b y h = (omega arith, ap (λ (a : Bool). a || p i) (y .1) ∙ sym (ap (someBelow p) (add-one i)))
+  so-far-more i b y h = (omega arith, ap (λ (a : Bool). a || p i) (y .1) ∙ sym (ap (someBelow p) (add-one i) ∙ someBelow-more p i))
 
   -- all were asked
   pub so-far-all : (i : ℕ) (b : Bool) → SoFar i b → n ≤ i → b ≡ someBelow p n
@@ -84,17 +83,17 @@ module _ (p : ℕ → Bool) (n : ℕ) where
 
   -- below 0 there is none
   pub not-yet : NotYet 0
-  unfolding firstBelow
+  unfolding below firstOf
   not-yet = (omega arith, refl)
 
   -- the first number that passes
   pub first-found : (i : ℕ) (b : Bool) → NotYet i → i < n → b ≡ p i → b ≡ true → some i ≡ firstBelow p n
-  first-found i b y h e t = sym (first-firstBelow p n i (record { within = h; passes = passes (p i) (sym e ∙ t); none-before = firstBelow-none p i (y .1) }))
+  first-found i b y h e t = sym (first-is p (λ j. T (p j)) (λ j. (λ w. w, λ w. w)) n i .1 (record { within = h; such = passes (p i) (sym e ∙ t); none-before = firstBelow-none p i (y .1) }))
 
   -- a number that fails is passed over
   pub not-more : (i : ℕ) (b : Bool) → NotYet i → i < n → b ≡ p i → b ≡ false → NotYet (i + 1)
-  unfolding firstBelow orElse
-  not-more i b y h e t = (omega arith, ap (firstBelow p) (add-one i) ∙ ap₂ (λ (o : Option ℕ) (d : Bool). orElse o (cond d (some i) none)) (y .1) (sym e ∙ t))
+  unfolding below firstOf
+  not-more i b y h e t = (omega arith, ap (firstBelow p) (add-one i) ∙ firstOf-past p (below i) (i ∷ []) (y .1) ∙ ap (λ (d : Bool). cond d (some i) none) (sym e ∙ t))
 
   -- all were passed over
   pub not-found : (i : ℕ) → NotYet i → n ≤ i → none ≡ firstBelow p n

@@ -1,24 +1,27 @@
 -- What the checks of rows 1 to 6 settle: where none refuses, the tables have the form that the layers above rest on.
-use mathlib.Core.List.{List, List·Memᴰ, Memᴰ·of-map}
-use mathlib.Core.Bool.{false, not}
+use mathlib.Core.List.{List, [], _∷_, List·Memᴰ, Memᴰ·of-map}
+use mathlib.Core.Bool.{false}
 use mathlib.Core.Logic.{_⊎_, inl, inr, ⊎-elim}
 use mathlib.Core.Path.{_≡_, refl, sym, subst, _∙_}
 use Prim.Native.Nat.{ℕ, _%_, _≤_, _<_}
 use native.Mathlib.Omega.{arith}
-use lib.Dec.{T, eqb, eqb→eq}
+use lib.Dec.{eqb, eqb→eq}
 use lib.ListN.{length, getD, take, length-take, List·getD-eq-default}
 use lib.Seq.{getD-take}
 use Rattle.tables.specs.Words.{below}
 use Rattle.tables.specs.Bytes.{byteAt, wordAt}
-use Rattle.tables.specs.Terms.{Term, termAt, noTerm, LowerArguments}
-use Rattle.tables.specs.TermTable.{termCount, termRecord, symbolField, arityField, argumentField, rowOf, otherArity, hadOtherArity, equalsEarlier, termOf, termsOf}
+use Rattle.tables.specs.Terms.{Term, termAt, noTerm}
+use Rattle.tables.specs.Parts.{LowerArguments}
+use Rattle.tables.specs.TermTable.{termCount, termRecord, symbolField, arityField, argumentField, rowOf, termOf, termsOf}
+use Rattle.tables.specs.Tests.{breaksLayout, hadOtherArity, equalsEarlier, breaksLiteral}
 use Rattle.tables.specs.LiteralTable.{Literal, literalCount, literalRecord, literalOf, literalsOf}
+use Rattle.tables.specs.Rows.{Row, Refuses, LayoutFault, arity-over-four, argument-not-lower, HadOtherArity, EqualsEarlier, LiteralFault, side-not-one-or-two, kind-not-one-or-two, left-not-in-table, right-not-in-table, tableRows}
 use Rattle.tables.specs.Checks.{checked, numberOf}
 use Rattle.tables.specs.declared.Check.{Check}
 use Rattle.tables.specs.declared.Check.the-variants.{Sound, Length, Count, Layout, Arity, Repeated, Literal as Broken}
-use Rattle.tables.proofs.Words.{decide, by-test, passes, fails, and-both, some-someBelow, below-or-not, below-mem, mem-getD}
-use Rattle.tables.proofs.Tests.{eq-test, ne-test}
-use Rattle.tables.proofs.Faults.{LayoutFault, arity-over-four, argument-not-lower, breaks-layout, LiteralFault, side-not-one-or-two, kind-not-one-or-two, left-not-in-table, right-not-in-table, breaks-literal}
+use Rattle.tables.proofs.Words.{decide, below-or-not, below-mem, mem-getD, no-first}
+use Rattle.tables.proofs.Tests.{ne-test, not-unequal, not-above}
+use Rattle.tables.proofs.Faults.{breaks-layout, had-other-arity, equals-earlier, breaks-literal}
 use Rattle.tables.proofs.Rows.{sound-exactly}
 use Rattle.tables.proofs.Colours.{SidesWithin}
 use Rattle.tables.proofs.Filled.{length-map-below, map-below-at}
@@ -29,34 +32,40 @@ pub record SoundTables (bs ls : List ℕ) : Type 0 where
   pub literals-whole : length ls % 8 ≡ 0
   pub terms-fit : termCount bs ≤ 256
   pub layout : (k : ℕ) → k < termCount bs → LayoutFault k (termRecord bs k) → ⊥
-  pub one-arity : (k : ℕ) → k < termCount bs → T (hadOtherArity bs k) → ⊥
-  pub distinct : (k : ℕ) → k < termCount bs → T (equalsEarlier bs k) → ⊥
+  pub one-arity : (k : ℕ) → k < termCount bs → HadOtherArity bs k → ⊥
+  pub distinct : (k : ℕ) → k < termCount bs → EqualsEarlier bs k → ⊥
   pub literal : (k : ℕ) → k < literalCount ls → LiteralFault (termCount bs) (literalRecord ls k) → ⊥
+
+-- no row of the list names a place
+abbrev Silent : List Row → Type 0
+Silent [] = Unit {0}
+Silent (r ∷ rs) = ((p : ℕ) → r .At p → ⊥) × Silent rs
+
+-- so it is where none of them refuses
+silent : (rs : List Row) → ((n p : ℕ) → Refuses rs n p → ⊥) → Silent rs
+silent [] f = tt
+silent (r ∷ rs) f = let first : (p : ℕ) → r .At p → ⊥ = λ p a. f (r .number) p (inl (refl, a)) in (first, silent rs (λ n p x. f n p (inr (first, x))))
 
 -- where the check says sound, the tables are
 pub sound : (bs ls : List ℕ) → checked bs ls ≡ Sound → SoundTables bs ls
 sound bs ls e =
-    let r = sound-exactly bs ls .0 e in
-    let records = r .1 .1 in
+    let rows = silent (tableRows bs ls) (sound-exactly bs ls .0 e) in
+    let later = rows .1 .1 in
+    let whole : length bs % 16 ≡ 0 = not-unequal (length bs % 16) 0 .0 (λ f. rows .0 0 (inl (refl, f))) in
+    let fit : termCount bs ≤ 256 = not-above 256 (termCount bs) .0 (λ h. rows .1 .0 0 (inl (refl, h))) in
     record {
-      terms-whole = r .0 .0;
-      literals-whole = r .0 .1;
-      terms-fit = r .1 .0 .0;
-      layout = λ k h f. records .0 k h (breaks-layout bs k .1 f);
-      one-arity = records .1 .0;
-      distinct = records .1 .1 .0;
-      literal = λ k h f. records .1 .1 .1 k h (breaks-literal (termCount bs) ls k .1 f);
+      terms-whole = whole;
+      literals-whole = not-unequal (length ls % 8) 0 .0 (λ f. rows .0 1 (inr (refl, λ g. g whole, f)));
+      terms-fit = fit;
+      layout = no-first (breaksLayout bs) (λ k. LayoutFault k (termRecord bs k)) (breaks-layout bs) (termCount bs) (later .0);
+      one-arity = no-first (hadOtherArity bs) (HadOtherArity bs) (had-other-arity bs) (termCount bs) (later .1 .0);
+      distinct = no-first (equalsEarlier bs) (EqualsEarlier bs) (equals-earlier bs) (termCount bs) (later .1 .1 .0);
+      literal = no-first (breaksLiteral (termCount bs) ls) (λ k. LiteralFault (termCount bs) (literalRecord ls k)) (breaks-literal (termCount bs) ls) (literalCount ls) (later .1 .1 .1 .0);
     }
 
 -- a symbol of sound tables has one arity, the later record second
 pub later-arity : (bs ls : List ℕ) → SoundTables bs ls → (j k : ℕ) → j < k → k < termCount bs → symbolField (termRecord bs j) ≡ symbolField (termRecord bs k) → arityField (termRecord bs j) ≡ arityField (termRecord bs k)
-unfolding hadOtherArity otherArity
-later-arity bs ls sound j k h l e =
-    let x = arityField (termRecord bs j) in
-    let y = arityField (termRecord bs k) in
-    let same = eqb (symbolField (termRecord bs j)) (symbolField (termRecord bs k)) in
-    by-test (eqb x y) (λ q. eqb→eq x y (passes (eqb x y) q))
-    (λ q. absurd (sound .one-arity k l (some-someBelow (otherArity bs k) k j h (and-both same (not (eqb x y)) (eq-test (symbolField (termRecord bs j)) (symbolField (termRecord bs k)) .1 e) (fails (eqb x y) q)))))
+later-arity bs ls s j k h l e = not-unequal (arityField (termRecord bs j)) (arityField (termRecord bs k)) .0 (λ f. s .one-arity k l (j, h, (e, f)))
 
 -- a check that is not sound has a number
 pub refused-number : (check : Check) → (check ≡ Sound → ⊥) → eqb (numberOf check) 0 ≡ false

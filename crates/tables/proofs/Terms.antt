@@ -6,7 +6,8 @@ use Prim.Native.Nat.{ℕ, zero, suc, _+_, _≤_, _<_}
 use native.Mathlib.Nat.{le-refl, not-suc-le-zero}
 use native.Mathlib.Omega.{arith}
 use lib.ListN.{length, length-append, List·getD-append}
-use Rattle.tables.specs.Terms.{Term, termAt, downTo, down, parts, symbols, Part, itself, deeper, LowerArguments}
+use Rattle.tables.specs.Terms.{Term, termAt, downTo, down, parts, symbols}
+use Rattle.tables.specs.Parts.{Part, itself, deeper, LowerArguments}
 use Rattle.tables.specs.Interpretations.{Interpretation, value}
 use Rattle.tables.proofs.Words.{flatMap-mem, mem-flatMap}
 

@@ -5,7 +5,7 @@ use mathlib.Core.Path.{_≡_, subst}
 use Prim.Native.Nat.{ℕ, _-_, _≤_, _<_}
 use native.Mathlib.Omega.{arith}
 use lib.Dec.{T, eqb, ltb, leb, eqb→eq, eqb-refl, ltb→lt, lt→ltb, nltb→le, leb→le, le→leb, T-not, not-T}
-use Rattle.tables.specs.Words.{someBelow}
+use Rattle.tables.specs.Tests.{someBelow}
 use Rattle.tables.proofs.Words.{and-left, and-right, and-both, or-cases, or-left, or-right, decide, someBelow-some, some-someBelow}
 
 -- two numbers are tested to be equal

@@ -1,7 +1,7 @@
 -- Laws of the words of specs/Words.antt: each test says what it tests. Every layer cites them.
 use mathlib.Core.Bool.{Bool, true, false, cond, not, _&&_, _||_}
 use mathlib.Core.List.{List, [], _∷_, _++_, map, flatMap, List·Memᴰ, List·Memᴰ·head, List·Memᴰ·tail, List·Memᴰ·not-nil, List·Memᴰ·cases-cons, List·Memᴰ·append-cases, List·Memᴰ·eq-of-singleton, Memᴰ·append-left, Memᴰ·append-right, Memᴰ·map, Memᴰ·of-map}
-use mathlib.Core.Logic.{_⊎_, inl, inr, ⊎-elim}
+use mathlib.Core.Logic.{_↔_, _⊎_, inl, inr, ⊎-elim}
 use mathlib.Core.Option.{Option, some, none, Option·none-ne-some}
 use mathlib.Core.Path.{_≡_, refl, sym, ap, ap₂, subst, _∙_}
 use Prim.Native.Nat.{ℕ, zero, suc, _+_, _≤_, _<_}
@@ -10,7 +10,8 @@ use native.Mathlib.Numerals.{add-one}
 use native.Mathlib.Omega.{arith}
 use lib.Dec.{T, eqb, ltb, eqb→eq, eqb-refl, ltb→lt, lt→ltb}
 use lib.ListN.{length, getD, length-append}
-use Rattle.tables.specs.Words.{below, any, every, keep, among, same, someBelow, orElse, firstBelow, First, firstOf, Pair, pair, samePair, pairsBelow}
+use Rattle.tables.specs.Words.{below, any, every, keep, among, same, firstBelow, First, firstOf, Pair, pair, samePair, pairsBelow}
+use Rattle.tables.specs.Tests.{someBelow}
 
 -- ---- tests
 
@@ -37,6 +38,14 @@ or-left false b h = absurd h
 pub or-right : (a b : Bool) → T b → T (a || b)
 or-right true b h = tt
 or-right false b h = h
+
+or-false : (a : Bool) → (a || false) ≡ a
+or-false true = refl
+or-false false = refl
+
+or-assoc : (a b c : Bool) → (a || b || c) ≡ (a || (b || c))
+or-assoc true b c = refl
+or-assoc false b c = refl
 
 -- a test passes or fails
 pub decide : (b : Bool) → T b ⊎ T (not b)
@@ -163,6 +172,42 @@ module _ {ℓ} {A : Type ℓ} where
       go true w f = let z : _≡_ {A = ℕ} 0 1 = cc in omega arith
       go false w f = f w
 
+  -- what stands behind is looked at where nothing passes before
+  pub firstOf-behind : (p : A → Bool) (xs ys : List A) (x : A) → firstOf p xs ≡ some x → firstOf p (xs ++ ys) ≡ some x
+  unfolding firstOf
+  firstOf-behind p [] ys x e = absurd (Option·none-ne-some x e)
+  firstOf-behind p (y ∷ xs) ys x e = go (p y) e (λ k. firstOf-behind p xs ys x k)
+    where
+      go : (b : Bool) → cond b (some y) (firstOf p xs) ≡ some x → (firstOf p xs ≡ some x → firstOf p (xs ++ ys) ≡ some x) → cond b (some y) (firstOf p (xs ++ ys)) ≡ some x
+      go true q f = q
+      go false q f = f q
+
+  pub firstOf-past : (p : A → Bool) (xs ys : List A) → firstOf p xs ≡ none → firstOf p (xs ++ ys) ≡ firstOf p ys
+  unfolding firstOf
+  firstOf-past p [] ys e = refl
+  firstOf-past p (y ∷ xs) ys e = go (p y) e (λ k. firstOf-past p xs ys k)
+    where
+      go : (b : Bool) → cond b (some y) (firstOf p xs) ≡ none → (firstOf p xs ≡ none → firstOf p (xs ++ ys) ≡ firstOf p ys) → cond b (some y) (firstOf p (xs ++ ys)) ≡ firstOf p ys
+      go true q f = let z : _≡_ {A = ℕ} 0 1 = cc in absurd (omega arith)
+      go false q f = f q
+
+  -- tests that agree on the members of a list find alike
+  pub firstOf-agree : (p q : A → Bool) (xs : List A) → ((x : A) → List·Memᴰ x xs → p x ≡ q x) → firstOf p xs ≡ firstOf q xs
+  unfolding firstOf
+  firstOf-agree p q [] f = refl
+  firstOf-agree p q (x ∷ xs) f = ap₂ (λ (b : Bool) (o : Option A). cond b (some x) o) (f x (List·Memᴰ·head refl)) (firstOf-agree p q xs (λ y m. f y (List·Memᴰ·tail m)))
+
+  pub any-agree : (p q : A → Bool) (xs : List A) → ((x : A) → List·Memᴰ x xs → p x ≡ q x) → any p xs ≡ any q xs
+  unfolding any
+  any-agree p q [] f = refl
+  any-agree p q (x ∷ xs) f = ap₂ (λ (a b : Bool). a || b) (f x (List·Memᴰ·head refl)) (any-agree p q xs (λ y m. f y (List·Memᴰ·tail m)))
+
+  -- a member behind the others is tested last
+  pub any-behind : (p : A → Bool) (xs : List A) (x : A) → any p (xs ++ (x ∷ [])) ≡ (any p xs || p x)
+  unfolding any
+  any-behind p [] x = or-false (p x)
+  any-behind p (y ∷ xs) x = ap (λ (b : Bool). p y || b) (any-behind p xs x) ∙ sym (or-assoc (p y) (any p xs) (p x))
+
 -- ---- numbers in lists
 
 pub among-mem : (x : ℕ) (xs : List ℕ) → T (among x xs) → List·Memᴰ x xs
@@ -217,80 +262,72 @@ mem-below (suc n) k h = go (below-or-is k n h) (λ l. mem-below n k l)
 
 -- ---- some number, and the first number, below n
 
+some-one : {a b : ℕ} → some a ≡ some b → a ≡ b
+some-one e = cc
+
 pub someBelow-some : (p : ℕ → Bool) (n : ℕ) → T (someBelow p n) → (k : ℕ) × (k < n) × T (p k)
-unfolding someBelow
-someBelow-some p zero h = absurd h
-someBelow-some p (suc n) h = go (or-cases (someBelow p n) (p n) h) (λ l. someBelow-some p n l)
-  where
-    go : T (someBelow p n) ⊎ T (p n) → (T (someBelow p n) → (k : ℕ) × (k < n) × T (p k)) → (k : ℕ) × (k < suc n) × T (p k)
-    go (inl l) f = let r = f l in (r .0, omega (arith, r .1), r .2)
-    go (inr l) f = (n, le-refl (suc n), l)
+someBelow-some p n h = let r = any-some p (below n) h in (r .0, below-mem n (r .1), r .2)
 
 pub some-someBelow : (p : ℕ → Bool) (n k : ℕ) → k < n → T (p k) → T (someBelow p n)
-unfolding someBelow
-some-someBelow p zero k h l = absurd (not-suc-le-zero h)
-some-someBelow p (suc n) k h l = go (below-or-is k n h) (λ w. some-someBelow p n k w l)
-  where
-    go : (k < n) ⊎ (k ≡ n) → (k < n → T (someBelow p n)) → T (someBelow p n || p n)
-    go (inl w) f = or-left (someBelow p n) (p n) (f w)
-    go (inr e) f = or-right (someBelow p n) (p n) (subst (λ z. T (p z)) e l)
+some-someBelow p n k h l = some-any p (mem-below n k h) l
+
+-- of the numbers below the next, n is looked at last
+pub someBelow-more : (p : ℕ → Bool) (n : ℕ) → someBelow p (suc n) ≡ (someBelow p n || p n)
+unfolding below any
+someBelow-more p n = any-behind p (below n) n
 
 -- tests that agree below n pass for some number below n alike
 pub someBelow-agree : (p q : ℕ → Bool) (n : ℕ) → ((k : ℕ) → k < n → p k ≡ q k) → someBelow p n ≡ someBelow q n
-unfolding someBelow
-someBelow-agree p q zero f = refl
-someBelow-agree p q (suc n) f = ap₂ (λ (a b : Bool). a || b) (someBelow-agree p q n (λ k h. f k (omega arith))) (f n (le-refl (suc n)))
+someBelow-agree p q n f = any-agree p q (below n) (λ k m. f k (below-mem n m))
+
+-- and the first that passes is one
+pub firstBelow-agree : (p q : ℕ → Bool) (n : ℕ) → ((k : ℕ) → k < n → p k ≡ q k) → firstBelow p n ≡ firstBelow q n
+firstBelow-agree p q n f = firstOf-agree p q (below n) (λ k m. f k (below-mem n m))
 
 pub firstBelow-none : (p : ℕ → Bool) (n : ℕ) → firstBelow p n ≡ none → (k : ℕ) → k < n → T (p k) → ⊥
-unfolding firstBelow orElse
-firstBelow-none p zero e k h l = absurd (not-suc-le-zero h)
-firstBelow-none p (suc n) e k h l = go (firstBelow p n) refl e (λ q w. firstBelow-none p n q k w l)
-  where
-    last : (b : Bool) → p n ≡ b → cond b (some n) none ≡ none → T (p n) → ⊥
-    last true q w x = let z : _≡_ {A = ℕ} 0 1 = cc in omega arith
-    last false q w x = subst T q x
+firstBelow-none p n e k h l = firstOf-none p e (mem-below n k h) l
 
-    go : (o : Option ℕ) → firstBelow p n ≡ o → orElse o (cond (p n) (some n) none) ≡ none → (firstBelow p n ≡ none → k < n → ⊥) → ⊥
-    go (some j) q w f = let z : _≡_ {A = ℕ} 0 1 = cc in omega arith
-    go none q w f = ⊎-elim (λ x. f q x) (λ x. last (p n) refl w (subst (λ z. T (p z)) x l)) (below-or-is k n h)
-
-pub firstBelow-some : (p : ℕ → Bool) (n k : ℕ) → firstBelow p n ≡ some k → First p n k
-unfolding firstBelow orElse
+-- the number that is found passes, and none before it does
+pub firstBelow-some : (p : ℕ → Bool) (n k : ℕ) → firstBelow p n ≡ some k → First (λ j. T (p j)) n k
+unfolding below firstOf
 firstBelow-some p zero k e = absurd (Option·none-ne-some k e)
-firstBelow-some p (suc n) k e = go (firstBelow p n) refl e (λ q. firstBelow-some p n k q)
+firstBelow-some p (suc n) k e = go (firstBelow p n) refl (λ q. firstBelow-some p n k q)
   where
-    last : (b : Bool) → p n ≡ b → cond b (some n) none ≡ some k → firstBelow p n ≡ none → First p (suc n) k
-    last true q w x = let y : k ≡ n = cc in record { within = omega arith; passes = subst (λ z. T (p z)) (sym y) (passes (p n) q); none-before = λ j h. firstBelow-none p n x j (omega arith) }
-    last false q w x = absurd (Option·none-ne-some k w)
-
-    go : (o : Option ℕ) → firstBelow p n ≡ o → orElse o (cond (p n) (some n) none) ≡ some k → (firstBelow p n ≡ some k → First p n k) → First p (suc n) k
-    go (some j) q w f = let r = f (q ∙ w) in record { within = omega (arith, r .within); passes = r .passes; none-before = r .none-before }
-    go none q w f = last (p n) refl w q
+    go : (o : Option ℕ) → firstBelow p n ≡ o → (firstBelow p n ≡ some k → First (λ j. T (p j)) n k) → First (λ j. T (p j)) (suc n) k
+    go (some j) q f =
+        let y : j ≡ k = some-one (sym (firstOf-behind p (below n) (n ∷ []) j q) ∙ e) in
+        let r = f (q ∙ ap some y) in
+        record { within = omega (arith, r .within); such = r .such; none-before = r .none-before }
+    go none q f =
+        let r = firstOf-some p (n ∷ []) k (sym (firstOf-past p (below n) (n ∷ []) q) ∙ e) in
+        let y : k ≡ n = List·Memᴰ·eq-of-singleton (r .0) in
+        record { within = omega (arith, y); such = r .1; none-before = λ j h. firstBelow-none p n q j (omega (arith, y)) }
 
 -- two first numbers are one
-pub first-one : (p : ℕ → Bool) (n k j : ℕ) → First p n k → First p n j → k ≡ j
-first-one p n k j x y = order (below-or-is k j) (below-or-is j k)
-  where
-    order : (k < suc j → (k < j) ⊎ (k ≡ j)) → (j < suc k → (j < k) ⊎ (j ≡ k)) → k ≡ j
-    order f g = by-test (ltb k j)
-        (λ e. absurd (y .none-before k (ltb→lt k j (passes (ltb k j) e)) (x .passes)))
-        (λ e. by-test (ltb j k) (λ d. absurd (x .none-before j (ltb→lt j k (passes (ltb j k) d)) (y .passes))) (λ d. omega (arith, lib.Dec.nltb→le k j (fails (ltb k j) e), lib.Dec.nltb→le j k (fails (ltb j k) d))))
+pub first-one : (P : ℕ → Type 0) (n k j : ℕ) → First P n k → First P n j → k ≡ j
+first-one P n k j x y =
+    by-test (ltb k j)
+    (λ e. absurd (y .none-before k (ltb→lt k j (passes (ltb k j) e)) (x .such)))
+    (λ e. by-test (ltb j k) (λ d. absurd (x .none-before j (ltb→lt j k (passes (ltb j k) d)) (y .such))) (λ d. omega (arith, lib.Dec.nltb→le k j (fails (ltb k j) e), lib.Dec.nltb→le j k (fails (ltb j k) d))))
 
--- the first such number is found
-pub first-firstBelow : (p : ℕ → Bool) (n k : ℕ) → First p n k → firstBelow p n ≡ some k
-first-firstBelow p n k x = go (firstBelow p n) refl
+-- a test finds the first number of which it says that it is such, and no other
+pub first-is : (p : ℕ → Bool) (P : ℕ → Type 0) → ((j : ℕ) → T (p j) ↔ P j) → (n k : ℕ) → (firstBelow p n ≡ some k) ↔ First P n k
+first-is p P f n k = (λ e. such (firstBelow-some p n k e), λ x. go x (firstBelow p n) refl)
   where
-    go : (o : Option ℕ) → firstBelow p n ≡ o → firstBelow p n ≡ some k
-    go (some j) e = e ∙ ap some (first-one p n j k (firstBelow-some p n j e) x)
-    go none e = absurd (firstBelow-none p n e k (x .within) (x .passes))
+    such : {j : ℕ} → First (λ i. T (p i)) n j → First P n j
+    such {j} x = record { within = x .within; such = f j .0 (x .such); none-before = λ i h q. x .none-before i h (f i .1 q) }
 
--- nothing is found where no number passes
-pub none-firstBelow : (p : ℕ → Bool) (n : ℕ) → ((k : ℕ) → k < n → T (p k) → ⊥) → firstBelow p n ≡ none
-none-firstBelow p n f = go (firstBelow p n) refl
+    go : First P n k → (o : Option ℕ) → firstBelow p n ≡ o → firstBelow p n ≡ some k
+    go x (some j) e = e ∙ ap some (first-one P n j k (such (firstBelow-some p n j e)) x)
+    go x none e = absurd (firstBelow-none p n e k (x .within) (f k .1 (x .such)))
+
+-- where no number is the first such, none below n is such
+pub no-first : (p : ℕ → Bool) (P : ℕ → Type 0) → ((j : ℕ) → T (p j) ↔ P j) → (n : ℕ) → ((k : ℕ) → First P n k → ⊥) → (k : ℕ) → k < n → P k → ⊥
+no-first p P f n none-is k h q = go (firstBelow p n) refl
   where
-    go : (o : Option ℕ) → firstBelow p n ≡ o → firstBelow p n ≡ none
-    go (some j) e = let r = firstBelow-some p n j e in absurd (f j (r .within) (r .passes))
-    go none e = e
+    go : (o : Option ℕ) → firstBelow p n ≡ o → ⊥
+    go (some j) e = none-is j (first-is p P f n j .0 e)
+    go none e = firstBelow-none p n e k h (f k .1 q)
 
 -- ---- pairs
 

@@ -4,8 +4,11 @@ pub mod Words
 pub mod Bytes
 pub mod TermTable
 pub mod LiteralTable
+pub mod Rows
+pub mod Tests
 pub mod Checks
 pub mod Terms
+pub mod Parts
 pub mod Colours
 pub mod Interpretations
 pub mod Read

@@ -1,8 +1,8 @@
 -- 01: "Literal record, 8 bytes: 0 side (1 = A, 2 = B); 1 kind (1 equal, 2 different); 2-3 left; 4-5 right; 6-7 zero."
-use mathlib.Core.Bool.{Bool, true, false, cond, not, _||_}
+use mathlib.Core.Bool.{Bool, true, false, cond}
 use mathlib.Core.List.{List, map}
 use Prim.Native.Nat.{ℕ}
-use lib.Dec.{eqb, leb}
+use lib.Dec.{eqb}
 use Rattle.tables.specs.Words.{below}
 use Rattle.tables.specs.Bytes.{byteAt, wordAt, countOf, recordAt}
 -- a literal is marked A or B
@@ -35,18 +35,6 @@ literalCount bs = countOf 8 bs
 -- the bytes of literal record k
 abbrev pub literalRecord : List ℕ → ℕ → List ℕ
 literalRecord bs k = recordAt 8 bs k
-
--- "not 1 or 2"
-unfoldable pub notOneOrTwo : ℕ → Bool
-notOneOrTwo b = not (eqb b 1 || eqb b 2)
-
--- row 6: "side or kind not 1 or 2, a term number not in the table, bytes 6-7 not zero", in a table of n terms
-unfoldable pub breaksLiteral : ℕ → List ℕ → ℕ → Bool
-unfolding notOneOrTwo
-breaksLiteral n bs k =
-    let r = literalRecord bs k in
-    notOneOrTwo (byteAt r 0) || notOneOrTwo (byteAt r 1) || leb n (wordAt r 2) || leb n (wordAt r 4) ||
-    not (eqb (wordAt r 6) 0)
 
 -- the literal that a record describes
 unfoldable pub literalOf : List ℕ → Literal

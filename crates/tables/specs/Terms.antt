@@ -1,7 +1,7 @@
 -- Terms as document 01 speaks of them once the table is read: a symbol over arguments, which are term numbers.
-use mathlib.Core.List.{List, [], _∷_, map, flatMap, List·Memᴰ}
-use Prim.Native.Nat.{ℕ, zero, suc, _<_}
-use lib.ListN.{length, getD}
+use mathlib.Core.List.{List, [], _∷_, map, flatMap}
+use Prim.Native.Nat.{ℕ, zero, suc}
+use lib.ListN.{getD}
 
 pub record Term : Type 0 where
   pub symbol : ℕ
@@ -34,12 +34,3 @@ parts = down (λ t term below. t ∷ flatMap (λ ps. ps) below) []
 unfoldable pub symbols : List Term → ℕ → List ℕ
 unfolding parts
 symbols ts t = map (λ u. termAt ts u .symbol) (parts ts t)
-
--- the same, as what a reader believes: u is t itself, or a part of an argument of t
-pub data Part (ts : List Term) (u : ℕ) : ℕ → Type 0 where
-  itself : Part ts u u
-  deeper : {t a : ℕ} → List·Memᴰ a (termAt ts t .arguments) → Part ts u a → Part ts u t
-
--- "Every argument is lower than the record's own number."
-abbrev pub LowerArguments : List Term → Type 0
-LowerArguments ts = (t : ℕ) → t < length ts → (a : ℕ) → List·Memᴰ a (termAt ts t .arguments) → a < t

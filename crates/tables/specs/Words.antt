@@ -3,7 +3,7 @@ use mathlib.Core.Bool.{Bool, true, false, cond, _&&_, _||_}
 use mathlib.Core.List.{List, [], _∷_, _++_, map, flatMap}
 use mathlib.Core.Option.{Option, some, none}
 use Prim.Native.Nat.{ℕ, zero, suc, _<_}
-use lib.Dec.{T, eqb, ltb}
+use lib.Dec.{eqb, ltb}
 
 -- the numbers below n, ascending
 unfoldable pub below : ℕ → List ℕ
@@ -36,31 +36,20 @@ same [] (y ∷ ys) = false
 same (x ∷ xs) [] = false
 same (x ∷ xs) (y ∷ ys) = eqb x y && same xs ys
 
--- some number below n passes the test
-unfoldable pub someBelow : (ℕ → Bool) → ℕ → Bool
-someBelow p zero = false
-someBelow p (suc n) = someBelow p n || p n
-
--- what is found, or else the other
-unfoldable pub orElse {ℓ} : {A : Type ℓ} → Option A → Option A → Option A
-orElse (some a) o = some a
-orElse none o = o
-
--- "first such": the first number below n that passes the test
-unfoldable pub firstBelow : (ℕ → Bool) → ℕ → Option ℕ
-firstBelow p zero = none
-firstBelow p (suc n) = orElse (firstBelow p n) (cond (p n) (some n) none)
-
--- the same, as what a reader believes: k passes, and no lower number does
-pub record First (p : ℕ → Bool) (n k : ℕ) : Type 0 where
-  pub within : k < n
-  pub passes : T (p k)
-  pub none-before : (j : ℕ) → j < k → T (p j) → ⊥
-
 -- the first member that passes the test
 unfoldable pub firstOf {ℓ} : {A : Type ℓ} → (A → Bool) → List A → Option A
 firstOf p [] = none
 firstOf p (x ∷ xs) = cond (p x) (some x) (firstOf p xs)
+
+-- the first number below n that passes the test
+abbrev pub firstBelow : (ℕ → Bool) → ℕ → Option ℕ
+firstBelow p n = firstOf p (below n)
+
+-- "first such", as what a reader believes: k is such a number below n, and no lower one is
+pub record First (Such : ℕ → Type 0) (n k : ℕ) : Type 0 where
+  pub within : k < n
+  pub such : Such k
+  pub none-before : (j : ℕ) → j < k → Such j → ⊥
 
 -- two term numbers, the lower one left
 pub record Pair : Type 0 where

@@ -4,7 +4,8 @@ use mathlib.Core.List.{List}
 use mathlib.Core.Logic.{_↔_}
 use Prim.Native.Nat.{ℕ}
 use lib.Dec.{T}
-use Rattle.tables.specs.Terms.{Term, LowerArguments}
+use Rattle.tables.specs.Terms.{Term}
+use Rattle.tables.specs.Parts.{LowerArguments}
 use Rattle.tables.specs.LiteralTable.{Literal}
 use Rattle.tables.specs.Colours.{inUse}
 use Rattle.tables.specs.Interpretations.{Satisfiable, FinitelySatisfiable, Entailed, FinitelyEntailed}

@@ -10,7 +10,8 @@ use native.Mathlib.Omega.{arith}
 use lib.Dec.{T, eqb, eqb-refl}
 use lib.ListN.{length}
 use Rattle.tables.specs.Words.{below, same, firstBelow}
-use Rattle.tables.specs.Terms.{Term, termAt, LowerArguments}
+use Rattle.tables.specs.Terms.{Term, termAt}
+use Rattle.tables.specs.Parts.{LowerArguments}
 use Rattle.tables.specs.LiteralTable.{Kind, equal, different, Literal}
 use Rattle.tables.specs.declared.Side.{Side}
 use Rattle.tables.specs.Interpretations.{Interpretation, Finite, value, HoldsAs, Holds, Satisfies, SatisfiesEqualities}
@@ -112,7 +113,7 @@ module _ (table : List Term) (low : LowerArguments table) (G : Graph) (vertex : 
       test = fits table G vertex (termAt table v .symbol) (map (label G) (termAt table v .arguments))
 
       go : (o : Option ℕ) → firstBelow test (length table) ≡ o → labelOr G (length table) o ≡ label G v
-      go (some w) e = fits-label v w h (firstBelow-some test (length table) w e .passes)
+      go (some w) e = fits-label v w h (firstBelow-some test (length table) w e .such)
       go none e = absurd (firstBelow-none test (length table) e v (within v h) (fits-self v h))
 
   -- the same, by induction on a bound: a vertex's arguments are lower vertices

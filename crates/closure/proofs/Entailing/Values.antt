@@ -5,7 +5,8 @@ use mathlib.Core.Logic.{_⊎_, inl, inr, ⊎-elim}
 use mathlib.Core.Path.{_≡_, refl, sym, ap, subst, _∙_}
 use Prim.Native.Nat.{ℕ}
 use lib.Dec.{T}
-use Rattle.tables.specs.Terms.{Term, LowerArguments}
+use Rattle.tables.specs.Terms.{Term}
+use Rattle.tables.specs.Parts.{LowerArguments}
 use Rattle.tables.specs.LiteralTable.{Kind, equal, Literal}
 use Rattle.tables.specs.Interpretations.{Interpretation, value, HoldsAs, Holds, SatisfiesEqualities}
 use Rattle.tables.proofs.Terms.{value-append}

@@ -4,7 +4,8 @@ use mathlib.Core.Path.{_≡_, refl, sym, ap₂, subst, _∙_}
 use Prim.Native.Nat.{ℕ, _<_}
 use lib.Dec.{T, eqb, eqb→eq, eqb-refl}
 use lib.ListN.{length}
-use Rattle.tables.specs.Terms.{Term, termAt, LowerArguments}
+use Rattle.tables.specs.Terms.{Term, termAt}
+use Rattle.tables.specs.Parts.{LowerArguments}
 use Rattle.tables.specs.Interpretations.{Interpretation, value}
 use Rattle.tables.proofs.Words.{and-left, and-right, and-both}
 use Rattle.tables.proofs.Terms.{value-law}

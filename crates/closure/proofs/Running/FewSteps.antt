@@ -8,13 +8,14 @@ use Prim.Native.Nat.{ℕ, zero, suc, _+_, _≤_, _<_}
 use native.Mathlib.Nat.{le-refl}
 use native.Mathlib.Omega.{arith}
 use lib.Dec.{T}
-use lib.ListN.{length, getD, length-append}
+use lib.ListN.{length, length-append}
 use Rattle.tables.specs.Words.{below, keep}
-use Rattle.tables.specs.Terms.{Term, LowerArguments}
+use Rattle.tables.specs.Terms.{Term}
+use Rattle.tables.specs.Parts.{LowerArguments}
 use Rattle.tables.specs.LiteralTable.{Literal}
 use Rattle.tables.specs.Colours.{inUse}
-use Rattle.tables.proofs.Words.{keep-mem, mem-keep, getD-mem, below-mem, mem-below, below-or-is, length-below}
-use Rattle.tables.proofs.Colours.{SidesWithin, inUse-within}
+use Rattle.tables.proofs.Words.{mem-keep, below-mem, mem-below, below-or-is, length-below}
+use Rattle.tables.proofs.Colours.{SidesWithin}
 use Rattle.closure.specs.Graph.{Graph}
 use Rattle.closure.specs.Steps.{State, tableOf, vertex, Run, NoStepLeft}
 use Rattle.closure.specs.OwnRun.{ownRun}
@@ -22,8 +23,8 @@ use Rattle.closure.proofs.Walking.Invariant.{Each}
 use Rattle.closure.proofs.Walking.Count.{once-keep, once-below, EndsIn, fewer-edges}
 use Rattle.closure.proofs.Walking.ParentPaths.{each-map, sound-forest}
 use Rattle.closure.proofs.Running.Vertices.{EndsAmong, vertex-cases, vertex-within}
-use Rattle.closure.proofs.Running.States.{SoundState, inUse-vertex}
-use Rattle.closure.proofs.Running.Runs.{run-sound, run-known}
+use Rattle.closure.proofs.Running.States.{SoundState}
+use Rattle.closure.proofs.Running.Runs.{run-sound}
 use Rattle.closure.proofs.Running.EdgesAndSteps.{edges-and-steps, run-adds}
 use Rattle.closure.proofs.Running.OwnRun.{FewSteps, own-run-no-step-left}
 
@@ -106,16 +107,13 @@ module _ (ts : List Term) (ls : List Literal) (st : State) where
       omega (arith, fewer, vertices-few)
 
 module _ (ts : List Term) (ls : List Literal) (low : LowerArguments ts) (within : SidesWithin ts ls) where
-  -- a term in use is counted
-  used-counted : (s : ℕ) → T (inUse ts ls s) → 0 < usedCount ts ls
-  used-counted s h = member-length (mem-keep (inUse ts ls) (mem-below (length ts) s (inUse-within ts ls low within s h)) h)
-
-  -- "With any term in use a run has fewer steps than there are such terms"
-  pub fewer-steps : 0 < usedCount ts ls → {k : ℕ} {st : State} → Run ts ls k st → k < usedCount ts ls
-  fewer-steps some-used {k} {st} run =
-      let v = getD (keep (inUse ts ls) (below (length ts))) 0 0 in
-      let used = keep-mem (inUse ts ls) (below (length ts)) (getD-mem (keep (inUse ts ls) (below (length ts))) 0 0 some-used) .1 in
-      omega (arith, edges-few ts ls st (run-sound ts ls low within run) v (inUse-vertex ts ls low within st v used), edges-and-steps ts ls low within run)
+  -- "With any term in use a run has fewer steps than there are such terms": so every run does that has a step
+  pub fewer-steps : {k : ℕ} {st : State} → Run ts ls k st → 0 < k → k < usedCount ts ls
+  fewer-steps {k} {st} run h = go (st .graph) refl (run-sound ts ls low within run .ends)
+    where
+      go : (G : Graph) → st .graph ≡ G → Each (EndsAmong (vertex ts ls st)) G → k < usedCount ts ls
+      go [] e ends = absurd (let z : ⊥ = omega (arith, edges-and-steps ts ls low within run, ap length e) in z)
+      go (x ∷ G) e ends = omega (arith, edges-few ts ls st (run-sound ts ls low within run) (x .left) (ends .0 .0), edges-and-steps ts ls low within run)
 
   -- the terms in use are no more than the terms
   pub used-given : usedCount ts ls ≤ length ts
@@ -123,11 +121,7 @@ module _ (ts : List Term) (ls : List Literal) (low : LowerArguments ts) (within 
 
   -- so a run with a step has fewer steps than there are terms
   pub few-steps : FewSteps ts ls
-  few-steps k st run h = omega (arith, fewer-steps (some-used (st .graph) (edges-and-steps ts ls low within run) (run-sound ts ls low within run .ends)) run, used-given)
-    where
-      some-used : (G : Graph) → k + length (st .added) ≤ length G → Each (EndsAmong (vertex ts ls st)) G → 0 < usedCount ts ls
-      some-used [] l ends = let z : ⊥ = omega arith in absurd z
-      some-used (e ∷ G) l ends = let q = run-known ts ls low within run (e .left) (ends .0 .0) in used-counted (q .0) (q .1)
+  few-steps k st run h = omega (arith, fewer-steps run h, used-given)
 
   -- "so at most 255 terms are added"
   pub few-added : length ts ≤ 256 → {k : ℕ} {st : State} → Run ts ls k st → length (st .added) ≤ 255

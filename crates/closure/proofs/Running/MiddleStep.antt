@@ -10,7 +10,8 @@ use lib.Dec.{T, eqb, eqb→eq}
 use lib.ListN.{length, length-append}
 use lib.Seq.{getD-append-seam}
 use Rattle.tables.specs.Words.{same}
-use Rattle.tables.specs.Terms.{Term, noTerm, termAt, LowerArguments}
+use Rattle.tables.specs.Terms.{Term, noTerm, termAt}
+use Rattle.tables.specs.Parts.{LowerArguments}
 use Rattle.tables.specs.LiteralTable.{Literal}
 use Rattle.tables.specs.declared.Side.{Side}
 use Rattle.tables.specs.declared.Side.the-variants.{A, B}
@@ -155,7 +156,7 @@ placed-either ts ls st m P f g = go (vertexEqual ts ls st m) refl
   where
     go : (o : Option ℕ) → vertexEqual ts ls st m ≡ o → P (placeAs ts st m o)
     go (some v) q =
-        let h = firstBelow-some (λ (v : ℕ). vertex ts ls st v && equalTerms (termAt (tableOf ts st) v) m) (length (tableOf ts st)) v q .passes in
+        let h = firstBelow-some (λ (v : ℕ). vertex ts ls st v && equalTerms (termAt (tableOf ts st) v) m) (length (tableOf ts st)) v q .such in
         f v (and-left (vertex ts ls st v) (equalTerms (termAt (tableOf ts st) v) m) h) (equal-terms (termAt (tableOf ts st) v) m (and-right (vertex ts ls st v) (equalTerms (termAt (tableOf ts st) v) m) h))
     go none q = g
 

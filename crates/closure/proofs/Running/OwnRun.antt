@@ -9,7 +9,8 @@ use native.Mathlib.Omega.{arith}
 use lib.Dec.{T, T-not, ltb, ltb→lt, nltb→le}
 use lib.ListN.{length}
 use Rattle.tables.specs.Words.{Pair, pair, pairsBelow}
-use Rattle.tables.specs.Terms.{Term, LowerArguments}
+use Rattle.tables.specs.Terms.{Term}
+use Rattle.tables.specs.Parts.{LowerArguments}
 use Rattle.tables.specs.LiteralTable.{equal, Literal}
 use Rattle.tables.specs.Colours.{inUse}
 use Rattle.tables.proofs.Words.{by-test, passes, fails, and-left, and-right, and-both, firstOf-some, firstOf-none, below-or-is, pairsBelow-mem, mem-pairsBelow}

@@ -8,7 +8,8 @@ use Prim.Native.Nat.{ℕ, _<_}
 use lib.Dec.{T, T-not}
 use lib.ListN.{length}
 use Rattle.tables.specs.Words.{firstOf}
-use Rattle.tables.specs.Terms.{Term, termAt, LowerArguments}
+use Rattle.tables.specs.Terms.{Term, termAt}
+use Rattle.tables.specs.Parts.{LowerArguments}
 use Rattle.tables.specs.LiteralTable.{Literal}
 use Rattle.tables.specs.declared.Side.{Side}
 use Rattle.tables.specs.declared.Side.the-variants.{A, B}

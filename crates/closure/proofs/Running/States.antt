@@ -7,7 +7,8 @@ use Prim.Native.Nat.{ℕ, _≤_, _<_}
 use native.Mathlib.Omega.{arith}
 use lib.Dec.{T}
 use lib.ListN.{length, length-append}
-use Rattle.tables.specs.Terms.{Term, termAt, itself, LowerArguments}
+use Rattle.tables.specs.Terms.{Term, termAt}
+use Rattle.tables.specs.Parts.{itself, LowerArguments}
 use Rattle.tables.specs.LiteralTable.{Literal, equal}
 use Rattle.tables.specs.declared.Side.{Side}
 use Rattle.tables.specs.declared.Side.the-variants.{A, B}

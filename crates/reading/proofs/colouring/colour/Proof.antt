@@ -5,7 +5,8 @@ use mathlib.Core.Bool.{Bool, false, not, cond}
 use mathlib.Core.Path.{_≡_, ap₂, _∙_}
 use Prim.Native.Nat.{_+_}
 use borrow.Author.Needs.{needs}
-use Rattle.tables.specs.Words.{every, someBelow}
+use Rattle.tables.specs.Words.{every}
+use Rattle.tables.specs.Tests.{someBelow}
 use Rattle.tables.specs.Terms.{parts}
 use Rattle.reading.specs.Marks.{markedAndMissing}
 use Rattle.reading.proofs.Marks.{none-closed, all-parts}

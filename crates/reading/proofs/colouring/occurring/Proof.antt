@@ -2,7 +2,7 @@
 use mathlib.Core.Bool.{false}
 use Prim.Native.Nat.{_-_}
 use native.Mathlib.Omega.{arith}
-use Rattle.tables.specs.Words.{someBelow}
+use Rattle.tables.specs.Tests.{someBelow}
 use Rattle.reading.specs.Marks.{sameSymbolInside}
 use Rattle.tables.proofs.Records.{Filling, filling-none, filling-more, filling-all}
 use Rattle.reading.proofs.colouring.occurring.Statement.{statement}

@@ -2,7 +2,7 @@
 use mathlib.Core.Path.{_≡_}
 use Prim.Native.Nat.{_-_}
 use native.Mathlib.Omega.{arith}
-use Rattle.tables.specs.TermTable.{hadOtherArity}
+use Rattle.tables.specs.Tests.{hadOtherArity}
 use Rattle.tables.specs.Checks.{arityRow}
 use Rattle.tables.proofs.Records.{NotYet, not-yet, first-found, not-more, not-found}
 use Rattle.reading.proofs.Keys.{arity-by-columns}

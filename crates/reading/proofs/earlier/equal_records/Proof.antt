@@ -2,7 +2,7 @@
 use mathlib.Core.Path.{ap₂, _∙_}
 use borrow.Author.Needs.{needs}
 use Rattle.tables.specs.Words.{same}
-use Rattle.tables.specs.TermTable.{equalRecords}
+use Rattle.tables.specs.Tests.{equalRecords}
 use Rattle.reading.proofs.earlier.equal_records.Statement.{statement}
 use Rattle.reading.proofs.earlier.equal_records.Tie as tie
 

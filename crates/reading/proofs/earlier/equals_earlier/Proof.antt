@@ -1,7 +1,7 @@
 -- `reading::earlier::equals_earlier` meets its contract. The invariant: no record passed is the same. The measure is what is left of them.
 use Prim.Native.Nat.{_-_}
 use native.Mathlib.Omega.{arith}
-use Rattle.tables.specs.TermTable.{equalRecords, equalsEarlier}
+use Rattle.tables.specs.Tests.{equalRecords, equalsEarlier}
 use Rattle.tables.proofs.Records.{NoneYet, none-yet, some-passed, none-more, none-passed}
 use Rattle.reading.proofs.earlier.equals_earlier.Statement.{statement}
 use Rattle.reading.proofs.earlier.equals_earlier.Tie as tie

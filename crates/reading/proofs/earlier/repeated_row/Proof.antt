@@ -3,7 +3,7 @@ use mathlib.Core.Logic.{⊎-elim}
 use mathlib.Core.Path.{refl}
 use Prim.Native.Nat.{_-_}
 use native.Mathlib.Omega.{arith}
-use Rattle.tables.specs.TermTable.{equalsEarlier}
+use Rattle.tables.specs.Tests.{equalsEarlier}
 use Rattle.tables.specs.Checks.{repeatedRow}
 use Rattle.tables.proofs.Records.{NotYet, not-yet, first-found, not-more, not-found}
 use Rattle.reading.proofs.Keys.{no-key}

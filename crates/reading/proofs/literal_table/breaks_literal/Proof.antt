@@ -1,6 +1,6 @@
 -- `reading::literal_table::breaks_literal` meets its contract. The tests are those of the definition, of the fields that were read.
 use borrow.Author.Needs.{needs}
-use Rattle.tables.specs.LiteralTable.{breaksLiteral}
+use Rattle.tables.specs.Tests.{breaksLiteral}
 use Rattle.reading.proofs.literal_table.breaks_literal.Statement.{statement}
 use Rattle.reading.proofs.literal_table.breaks_literal.Tie as tie
 

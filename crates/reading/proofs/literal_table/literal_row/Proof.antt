@@ -1,7 +1,7 @@
 -- `reading::literal_table::literal_row` meets its contract. The invariant: no record passed breaks row 6. The measure is what is left of them.
 use Prim.Native.Nat.{_-_}
 use native.Mathlib.Omega.{arith}
-use Rattle.tables.specs.LiteralTable.{breaksLiteral}
+use Rattle.tables.specs.Tests.{breaksLiteral}
 use Rattle.tables.proofs.Records.{NotYet, not-yet, first-found, not-more, not-found}
 use Rattle.reading.proofs.literal_table.literal_row.Statement.{statement}
 use Rattle.reading.proofs.literal_table.literal_row.Tie as tie

@@ -1,6 +1,6 @@
 -- `reading::literal_table::not_one_or_two` meets its contract. The code is the definition.
 use mathlib.Core.Path.{refl}
-use Rattle.tables.specs.LiteralTable.{notOneOrTwo}
+use Rattle.tables.specs.Tests.{notOneOrTwo}
 use Rattle.reading.proofs.literal_table.not_one_or_two.Statement.{statement}
 use Rattle.reading.proofs.literal_table.not_one_or_two.Tie as tie
 

@@ -1,7 +1,7 @@
 -- `reading::term_table::argument_wrong` meets its contract. The tests are those of the definition, of the fields that were read.
 use native.Mathlib.Omega.{arith}
 use borrow.Author.Needs.{needs}
-use Rattle.tables.specs.TermTable.{notLower, unusedNotZero}
+use Rattle.tables.specs.Tests.{notLower, unusedNotZero}
 use Rattle.reading.proofs.term_table.argument_wrong.Statement.{statement}
 use Rattle.reading.proofs.term_table.argument_wrong.Tie as tie
 

@@ -2,7 +2,7 @@
 use mathlib.Core.Bool.{_||_}
 use Prim.Native.Nat.{_-_}
 use native.Mathlib.Omega.{arith}
-use Rattle.tables.specs.TermTable.{notLower, unusedNotZero}
+use Rattle.tables.specs.Tests.{notLower, unusedNotZero}
 use Rattle.tables.proofs.Records.{NoneYet, none-yet, some-passed, none-more, none-passed}
 use Rattle.reading.proofs.term_table.arguments_wrong.Statement.{statement}
 use Rattle.reading.proofs.term_table.arguments_wrong.Tie as tie

@@ -1,7 +1,7 @@
 -- `reading::term_table::layout_row` meets its contract. The invariant: no record passed breaks its layout. The measure is what is left of them.
 use Prim.Native.Nat.{_-_}
 use native.Mathlib.Omega.{arith}
-use Rattle.tables.specs.TermTable.{breaksLayout}
+use Rattle.tables.specs.Tests.{breaksLayout}
 use Rattle.tables.specs.Checks.{layoutRow}
 use Rattle.tables.proofs.Records.{NotYet, not-yet, first-found, not-more, not-found}
 use Rattle.reading.proofs.term_table.layout_row.Statement.{statement}

@@ -2,7 +2,7 @@
 use mathlib.Core.Bool.{or-assoc, or-false}
 use borrow.Author.Needs.{needs}
 use Rattle.tables.specs.Words.{any}
-use Rattle.tables.specs.TermTable.{spareWrong}
+use Rattle.tables.specs.Tests.{spareWrong}
 use Rattle.reading.proofs.term_table.spare_wrong.Statement.{statement}
 use Rattle.reading.proofs.term_table.spare_wrong.Tie as tie
 
