@@ -15,7 +15,7 @@ use Rattle.closure.proofs.Walking.OnePath.{turned, backwards, backwards-append,
 use Rattle.closure.proofs.Walking.Parents.{hop-sound, path-hop, parent-hop}
 use Rattle.closure.proofs.Walking.ParentPaths.{parent-back}
 use Rattle.clauses.specs.Factors.{Factor, factors}
-use Rattle.clauses.specs.Premises.{Premise, own, parent}
+use Rattle.clauses.specs.Meaning.{Premise, own, parent}
 use Rattle.clauses.specs.Reading.{endOf}
 use Rattle.clauses.proofs.Factors.{Stretch, Alternate, none-left, last-one, other-next, allHops, factors-stretch, factors-alternate, factors-whole, longest-factors, factor-hop}
 use Rattle.clauses.proofs.Truths.{older-sound}

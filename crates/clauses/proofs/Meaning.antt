@@ -14,7 +14,8 @@ use Rattle.closure.proofs.Walking.Walks.{older-fewer}
 use Rattle.closure.proofs.Walking.Parents.{path-hop, parent-hop}
 use Rattle.clauses.specs.Clauses.{Clause}
 use Rattle.clauses.specs.Factors.{Factor, factors}
-use Rattle.clauses.specs.Premises.{premises, pathClauses, Premise, own, parent, ListsPremises, PathClause, inside, whole, under}
+use Rattle.clauses.specs.Premises.{premises, pathClauses}
+use Rattle.clauses.specs.Meaning.{Premise, own, parent, ListsPremises, PathClause, inside, whole, under}
 use Rattle.clauses.proofs.Factors.{factors-stretch, factor-hop}
 use Rattle.clauses.proofs.Members.{factorClause, edgePremises, PremiseAt, own-at, parent-at, ClauseAt, inside-at, whole-at, under-at, premise-at, at-premise, clause-at, at-clause, edge-premise, premise-edge, no-premise, no-clause}
 

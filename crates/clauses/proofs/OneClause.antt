@@ -27,7 +27,8 @@ use Rattle.closure.proofs.Walking.Parents.{hop-sound}
 use Rattle.closure.proofs.Walking.ParentPaths.{sound-forest, path-ends-differ, parent-in}
 use Rattle.clauses.specs.Clauses.{between, Clause, Conclusion, equals, falsum}
 use Rattle.clauses.specs.Factors.{Factor, factors}
-use Rattle.clauses.specs.Premises.{endsOf, pathClauses, Premise, own, parent, ListsPremises, PathClause, inside, whole, under}
+use Rattle.clauses.specs.Premises.{endsOf, pathClauses}
+use Rattle.clauses.specs.Meaning.{Premise, own, parent, ListsPremises, PathClause, inside, whole, under}
 use Rattle.clauses.specs.Reading.{Stretches, endOf, stretches, notMiddle, outerPremises, premisesIn, clausesIn, readA, readBetween, summary}
 use Rattle.clauses.specs.Records.{isLast, inOrder, clauseRecords}
 use Rattle.clauses.specs.ReadBack.{clausesRead}

@@ -2,6 +2,7 @@
 pub mod Clauses
 pub mod Factors
 pub mod Premises
+pub mod Meaning
 pub mod Reading
 pub mod Records
 pub mod ReadBack

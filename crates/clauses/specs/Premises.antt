@@ -1,7 +1,5 @@
 -- 01, "Reading the clauses": the premises and the path clauses of a path.
-use mathlib.Core.List.{List, [], _∷_, flatMap, List·Memᴰ}
-use mathlib.Core.Logic.{_↔_}
-use mathlib.Core.Path.{_≡_}
+use mathlib.Core.List.{List, [], _∷_, flatMap}
 use Prim.Native.Nat.{ℕ, zero, suc}
 use Rattle.tables.specs.Words.{Pair}
 use Rattle.tables.specs.Terms.{Term}
@@ -46,23 +44,3 @@ unfoldable pub pathClauses : ℕ → List Term → Path → List Clause
 unfolding factorClauses premises factors flatMap
 pathClauses zero table π = []
 pathClauses (suc d) table π = flatMap (λ f. factorClauses (premises d table) (pathClauses d table) table f (f .colour)) (factors π)
-
--- The same in 01's own words, with no count of turns: what is a premise of a path, and what is a path clause of it.
-pub data Premise (table : List Term) (p : Pair) : Path → Type 0 where
-  -- "a B-factor is its own premise"
-  own : {π : Path} {f : Factor} → List·Memᴰ f (factors π) → f .colour ≡ B → p ≡ endsOf f → Premise table p π
-  -- "an A-factor's premises are the premises of the parent paths of its edges"
-  parent : {π π′ : Path} {f : Factor} {h : Hop} → List·Memᴰ f (factors π) → f .colour ≡ A → List·Memᴰ h (f .hops) → List·Memᴰ π′ (parentPaths table h) → Premise table p π′ → Premise table p π
-
--- a list that holds the premises of a factor's edges' parent paths, and nothing else
-abbrev pub ListsPremises : List Term → Factor → List Pair → Type 0
-ListsPremises table f ps =
-    (p : Pair) → List·Memᴰ p ps ↔ ((h : Hop) × List·Memᴰ h (f .hops) × ((π : Path) × List·Memᴰ π (parentPaths table h) × Premise table p π))
-
-pub data PathClause (table : List Term) (c : Clause) : Path → Type 0 where
-  -- "a B-factor has the path clauses of its edges' parent paths"
-  inside : {π π′ : Path} {f : Factor} {h : Hop} → List·Memᴰ f (factors π) → f .colour ≡ B → List·Memᴰ h (f .hops) → List·Memᴰ π′ (parentPaths table h) → PathClause table c π′ → PathClause table c π
-  -- "an A-factor has the clause "premises imply [factor]""
-  whole : {π : Path} {f : Factor} → List·Memᴰ f (factors π) → f .colour ≡ A → ListsPremises table f (c .premises) → c .conclusion ≡ equals (endsOf f) → PathClause table c π
-  -- "and the path clauses of each premise"
-  under : {π π′ : Path} {f : Factor} {h : Hop} {p : Pair} → List·Memᴰ f (factors π) → f .colour ≡ A → List·Memᴰ h (f .hops) → List·Memᴰ π′ (parentPaths table h) → Premise table p π′ → PathClause table c (path (h .older) (p .left) (p .right)) → PathClause table c π

@@ -11,8 +11,10 @@ use Rattle.tables.specs.Terms.{Term}
 use Rattle.tables.specs.declared.Tables.{Tables}
 use Rattle.running.specs.declared.state.State.{State as Arrays}
 use Rattle.demands.specs.declared.Answer.the-variants.{Consistent, Inconsistent}
-use Rattle.demands.specs.Buffers.{termBytes, writtenOver, tooShort}
-use Rattle.demands.specs.Call.{Buffers, Returned, refused, consistent, inconsistent}
+use Rattle.demands.specs.Buffers.{termBytes, writtenOver}
+use Rattle.demands.specs.Answers.{numbersOf}
+use Rattle.demands.specs.Call.{refused, tooShort, consistent, inconsistent}
+use Rattle.demands.specs.Buffers.{Buffers, Returned}
 use Rattle.engine.specs.Ending.{Decides, termsIn, literalsIn, recordsFor, classBy, classBytes, recordsBytes}
 use Rattle.demands.proofs.AddedTerms.{addedBytes, addedBytes-length}
 use Rattle.demands.proofs.Ways.{clauses-length}
@@ -38,7 +40,7 @@ module _ (used : List Bool) (labels : List ℕ) (n : ℕ) (bs : Buffers) where
 
   -- a consistent verdict returns this where there is room
   abbrev withClasses : List ℕ → Returned
-  withClasses out = record { answer = Consistent; buffers = record { partition = out; added = bs .added; clauses = bs .clauses } }
+  withClasses out = record { numbers = numbersOf Consistent; buffers = record { partition = out; added = bs .added; clauses = bs .clauses } }
 
   -- the partition has no room
   pub consistent-short : length (bs .partition) < 2 * n → refused bs 7 0 ≡ consistent bs classes
@@ -75,7 +77,7 @@ module _ (t : Tables) (s : Arrays) (d : ℕ) (w : Decides t s d) (bs : Buffers) 
 
   -- an inconsistent verdict returns this where there is room
   abbrev withBoth : ℕ → ℕ → List ℕ → List ℕ → Returned
-  withBoth added count out-added out-clauses = record { answer = Inconsistent d added count; buffers = record { partition = bs .partition; added = out-added; clauses = out-clauses } }
+  withBoth added count out-added out-clauses = record { numbers = numbersOf (Inconsistent d added count); buffers = record { partition = bs .partition; added = out-added; clauses = out-clauses } }
 
   abbrev answered : Returned
   answered = withBoth (length (map termBytes ms)) (length (recordsFor w)) (writtenOver terms (bs .added)) (writtenOver clauses (bs .clauses))

@@ -24,7 +24,7 @@ use Rattle.running.specs.Opening.{ReadFrom}
 use Rattle.running.specs.declared.state.State.{State as Arrays}
 use Rattle.clauses.specs.Reading.{literalAt, critical}
 use Rattle.demands.specs.Buffers.{writtenOver}
-use Rattle.demands.specs.Call.{recordsIn}
+use Rattle.demands.specs.Verdicts.{recordsIn}
 
 -- the terms and the literals that the tables are read from
 abbrev pub termsIn : {t : Tables} → ReadFrom t → List Term

@@ -11,6 +11,7 @@ ghost use mathlib.Core.List.{List, map};
 ghost use mathlib.Core.Path.{_≡_};
 ghost use Prim.Native.Nat.{ℕ, _≤_};
 ghost use Rattle.running.specs.declared.state.State.{State as Arrays};
+ghost use Rattle.demands.specs.Answers.{numbersOf};
 ghost use Rattle.demands.specs.Buffers.{termBytes};
 ghost use Rattle.demands.specs.Call.{consistent as consistentBy, inconsistent as inconsistentBy};
 ghost use Rattle.engine.specs.Ending.{Decides, lentOf, recordsFor, classBytes};
@@ -18,7 +19,7 @@ ghost use Rattle.engine.specs.Ending.{Decides, lentOf, recordsFor, class
 // No disequality has its sides joined: the partition, where it has room.
 pub fn consistent(used: &[bool; 256], labels: &[u16; 511], n: usize, partition: &mut [u8]) -> Answer
     requires { ⌜ n ≤ 256 ⌝ }
-    ensures { λ r. ⌜ ((added clauses : List ℕ) → record { answer = r; buffers = record { partition = now (partition .exit); added = added; clauses = clauses } } ≡ consistentBy (record { partition = now (partition .entry); added = added; clauses = clauses }) (classBytes (now (used .entry)) (now (labels .entry)) n)) ⌝ }
+    ensures { λ r. ⌜ ((added clauses : List ℕ) → record { numbers = numbersOf r; buffers = record { partition = now (partition .exit); added = added; clauses = clauses } } ≡ consistentBy (record { partition = now (partition .entry); added = added; clauses = clauses }) (classBytes (now (used .entry)) (now (labels .entry)) n)) ⌝ }
 {
     if partition.len() < 2 * n {
         return Answer::Refused {
@@ -47,7 +48,7 @@ pub fn inconsistent<'a>(
     clauses: &mut [u8],
 ) -> Answer
     requires { ⌜ ((s : Arrays) × (w : Decides t (lentOf s graph «rows» (now labels) (now symbols) (now arities) (now colours) terms) d) × (w .ends .from .literals ≡ now literals)) ⌝ }
-    ensures { λ r. ⌜ ((s : Arrays) (w : Decides t (lentOf s graph «rows» (now (labels .entry)) (now (symbols .entry)) (now (arities .entry)) (now (colours .entry)) terms) d) → w .ends .from .literals ≡ now (literals .entry) → (partition : List ℕ) → record { answer = r; buffers = record { partition = partition; added = now (added .exit); clauses = now (clauses .exit) } } ≡ inconsistentBy (record { partition = partition; added = now (added .entry); clauses = now (clauses .entry) }) d (map termBytes (w .ends .state .added)) (recordsFor w)) ⌝ }
+    ensures { λ r. ⌜ ((s : Arrays) (w : Decides t (lentOf s graph «rows» (now (labels .entry)) (now (symbols .entry)) (now (arities .entry)) (now (colours .entry)) terms) d) → w .ends .from .literals ≡ now (literals .entry) → (partition : List ℕ) → record { numbers = numbersOf r; buffers = record { partition = partition; added = now (added .exit); clauses = now (clauses .exit) } } ≡ inconsistentBy (record { partition = partition; added = now (added .entry); clauses = now (clauses .entry) }) d (map termBytes (w .ends .state .added)) (recordsFor w)) ⌝ }
 {
     let count = terms - t.terms;
     if added.len() < 16 * count {

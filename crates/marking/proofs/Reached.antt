@@ -24,7 +24,8 @@ use Rattle.closure.proofs.Walking.Parents.{hop-sound, path-hop, parent-hop}
 use Rattle.closure.proofs.Walking.ParentPaths.{sound-forest, parent-path, parent-back}
 use Rattle.clauses.specs.Clauses.{Clause, equals}
 use Rattle.clauses.specs.Factors.{Factor, factors}
-use Rattle.clauses.specs.Premises.{endsOf, pathClauses, Premise, own, parent, PathClause, inside, whole, under}
+use Rattle.clauses.specs.Premises.{endsOf, pathClauses}
+use Rattle.clauses.specs.Meaning.{Premise, own, parent, PathClause, inside, whole, under}
 use Rattle.marking.specs.Marks.{isB, Reached, end-of, across, along, EdgeReached, EndOf, EdgeOf, PairWithin, Wants, Owed}
 use Rattle.clauses.proofs.Factors.{factors-stretch, factor-hop, hop-factor}
 use Rattle.clauses.proofs.Members.{factorClause, whole-at, at-clause}

@@ -17,7 +17,8 @@ use Rattle.closure.proofs.Walking.Walks.{older-fewer}
 use Rattle.closure.proofs.Walking.OnePath.{path-is}
 use Rattle.closure.proofs.Walking.Parents.{path-hop}
 use Rattle.clauses.specs.Clauses.{between, Conclusion, differs, falsum}
-use Rattle.clauses.specs.Premises.{premises, Premise, own, parent}
+use Rattle.clauses.specs.Premises.{premises}
+use Rattle.clauses.specs.Meaning.{Premise, own, parent}
 use Rattle.clauses.specs.Records.{amongPairs, ascending, clauseRecord, conclusionRecord}
 use Rattle.marking.specs.Marks.{Reached, PairWithin, PairMarked, Marked, Covered, Owed, Trailed, done, Wanted, OuterWanted}
 use Rattle.marking.specs.Drawn.{Drawing, Drawn, Settled}

@@ -15,7 +15,8 @@ use Rattle.tables.specs.Colours.{colourable}
 use Rattle.closure.specs.Graph.{Graph, Hop, Path, joined, path}
 use Rattle.closure.specs.Walks.{HopOf}
 use Rattle.clauses.specs.Clauses.{between, Clause, Conclusion, equals, differs, falsum}
-use Rattle.clauses.specs.Premises.{premises, Premise}
+use Rattle.clauses.specs.Premises.{premises}
+use Rattle.clauses.specs.Meaning.{Premise}
 use Rattle.clauses.specs.Records.{ascending, clauseRecord, recordsOf, clauseRecords}
 use Rattle.clauses.specs.Reading.{readBetween}
 use Rattle.graphs.specs.declared.paths.Trail.{Trail}

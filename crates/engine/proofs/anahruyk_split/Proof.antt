@@ -2,7 +2,7 @@
 use mathlib.Core.Path.{ap, _∙_}
 use borrow.Author.Needs.{needs}
 use Rattle.demands.specs.Answers.{numbersOf}
-use Rattle.demands.specs.Call.{Returned}
+use Rattle.demands.specs.Buffers.{Returned}
 use Rattle.engine.proofs.anahruyk_split.Statement.{statement}
 use Rattle.engine.proofs.anahruyk_split.Tie as tie
 

@@ -19,7 +19,7 @@ use Rattle.running.specs.Stepping.{Ends}
 use Rattle.running.proofs.Beginning.{terms-fit}
 use Rattle.running.proofs.BasicSteps.{sides-small}
 use Rattle.demands.specs.declared.Answer.{Answer}
-use Rattle.demands.specs.Call.{Buffers}
+use Rattle.demands.specs.Buffers.{Buffers}
 use Rattle.demands.proofs.Ways.{judged-refused, judged-ended}
 use Rattle.engine.specs.Ending.{Decides, termsIn, literalsIn}
 use Rattle.engine.proofs.EndOfRun.{ends-of, ended-stuck, found-critical, ended-inconsistent, ended-consistent}

@@ -47,7 +47,7 @@ enum-told-2 : tie.Need-enum-told-2
 enum-told-2 c = search needs
 
 check-terms-requires : tie.Need-check-terms-requires
-check-terms-requires c κs = count-none _ _ .0 (nothing-found _ _ (c .before .before .count-row .ensures) (c .enum-told2 .given .1)) .0
+check-terms-requires c κs = count-none _ _ (nothing-found _ _ (c .before .before .count-row .ensures) (c .enum-told2 .given .1)) .0
 
 returns-3 : tie.Need-returns-3
 returns-3 c = c .check-terms .ensures ∙ sym (past-count (c .before))
