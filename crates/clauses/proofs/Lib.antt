@@ -1,4 +1,5 @@
 -- Theorems about the definitions of specs/.
+pub mod Computing
 pub mod Factors
 pub mod Members
 pub mod Truths

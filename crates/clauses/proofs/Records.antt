@@ -15,7 +15,7 @@ use Rattle.tables.specs.Bytes.{AllBytes}
 use Rattle.tables.proofs.WordBytes.{word-value, bytes-none, bytes-cons, bytes-append, bytes-flatMap, wordBytes-bytes, records-read, records-length}
 use Rattle.clauses.specs.Clauses.{Clause, Conclusion, equals, differs, falsum}
 use Rattle.clauses.specs.Records.{standing, clauseRecord, conclusionRecord, recordsOf, clauseRecords}
-use Rattle.clauses.specs.ReadBack.{pairRead, conclusionRead, clausesAfter, clausesOf, clausesRead}
+use Rattle.clauses.specs.ReadBack.{pairRead, conclusionRead, clausesAfter, clausesRead}
 use Rattle.clauses.specs.Truth.{TrueClauses, SharedClause}
 use Rattle.clauses.proofs.Order.{PairWithin, ConclusionWithin, ClauseWithin, ClausesWithin, LastsWithin, OneEach, within-more, standing-within, standing-true, shared-standing}
 
@@ -138,20 +138,20 @@ clause-back c rs w =
     conclusion-back (c .premises) (c .conclusion) rs (w .conclusion-within)
 
 -- the records of clauses give the clauses
-pub clauses-back : (cs : List Clause) → ClausesWithin 65536 cs → clausesOf (flatMap recordsOf cs) ≡ cs
-unfolding clausesOf flatMap
+pub clauses-back : (cs : List Clause) → ClausesWithin 65536 cs → clausesAfter [] (flatMap recordsOf cs) ≡ cs
+unfolding flatMap clausesAfter
 clauses-back [] w = refl
 clauses-back (c ∷ cs) w = clause-back c (flatMap recordsOf cs) (w c (List·Memᴰ·head refl)) ∙ ap (λ (ds : List Clause). c ∷ ds) (clauses-back cs (λ d m. w d (List·Memᴰ·tail m)))
 
 -- reading the records back gives exactly the clauses that stand
-pub read-back : (n : ℕ) (cs : List Clause) → n ≤ 65536 → LastsWithin n cs → clausesOf (clauseRecords n cs) ≡ standing n cs
+pub read-back : (n : ℕ) (cs : List Clause) → n ≤ 65536 → LastsWithin n cs → clausesAfter [] (clauseRecords n cs) ≡ standing n cs
 unfolding clauseRecords
 read-back n cs h lasts = clauses-back (standing n cs) (λ c m. within-more n 65536 c h (standing-within n cs lasts c m))
 
 -- the same of the bytes, whatever follows them
 pub read-back-bytes : (n : ℕ) (cs : List Clause) (rest : List ℕ) → n ≤ 65536 → LastsWithin n cs → clausesRead (length (clauseRecords n cs)) (clauseBytes n cs ++ rest) ≡ standing n cs
 unfolding clausesRead
-read-back-bytes n cs rest h lasts = ap clausesOf (records-read 8 (clauseRecords n cs) rest (clauseRecords-eight n cs)) ∙ read-back n cs h lasts
+read-back-bytes n cs rest h lasts = ap (clausesAfter []) (records-read 8 (clauseRecords n cs) rest (clauseRecords-eight n cs)) ∙ read-back n cs h lasts
 
 -- so what a reader of the bytes gets is true exactly where the clauses are
 pub bytes-true : (n : ℕ) (cs : List Clause) (rest : List ℕ) → n ≤ 65536 → OneEach n cs → (I : Interpretation) (table : List Term) → TrueClauses I table cs ↔ TrueClauses I table (clausesRead (length (clauseRecords n cs)) (clauseBytes n cs ++ rest))
@@ -164,5 +164,5 @@ bytes-shared n cs rest h lasts ts ls table s c m = shared-standing n cs ts ls ta
 
 -- 01's case P7: premise 0=1 and conclusion 2=3, read from the two records that it prints
 pub late-read : clausesRead 2 (1 ∷ 0 ∷ 0 ∷ 0 ∷ 1 ∷ 0 ∷ 0 ∷ 0 ∷ 2 ∷ 0 ∷ 2 ∷ 0 ∷ 3 ∷ 0 ∷ 0 ∷ 0 ∷ []) ≡ record { premises = pair 0 1 ∷ []; conclusion = equals (pair 2 3) } ∷ []
-unfolding clausesRead below
+unfolding clausesRead below clausesAfter pairRead conclusionRead
 late-read = refl

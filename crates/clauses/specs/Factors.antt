@@ -27,6 +27,5 @@ inFront h [] = alone h ∷ []
 inFront h (f ∷ fs) = cond (sameSide (h .colour) (f .colour)) (longer h f ∷ fs) (alone h ∷ f ∷ fs)
 
 unfoldable pub factors : Path → List Factor
-unfolding inFront
 factors [] = []
 factors (h ∷ π) = inFront h (factors π)

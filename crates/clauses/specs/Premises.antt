@@ -23,7 +23,6 @@ factorPremises below f A = flatMap below (f .hops)
 
 -- "Premises of a path: those of its factors"
 unfoldable pub premises : ℕ → List Term → Path → List Pair
-unfolding factorPremises factors flatMap
 premises zero table π = []
 premises (suc d) table π =
     flatMap (λ f. factorPremises (λ h. flatMap (premises d table) (parentPaths table h)) f (f .colour)) (factors π)
@@ -31,16 +30,16 @@ premises (suc d) table π =
 -- "a B-factor has the path clauses of its edges' parent paths; an A-factor has the clause "premises imply [factor]" and the path clauses of each
 -- premise"; a premise's path is the path between its ends
 unfoldable pub factorClauses : (Path → List Pair) → (Path → List Clause) → List Term → Factor → Side → List Clause
-unfolding flatMap factorPremises
 factorClauses premisesOf clausesOf table f B = flatMap (λ h. flatMap clausesOf (parentPaths table h)) (f .hops)
 factorClauses premisesOf clausesOf table f A =
-    record { premises = factorPremises (λ h. flatMap premisesOf (parentPaths table h)) f A; conclusion = equals (endsOf f) } ∷
+    let own = factorPremises (λ h. flatMap premisesOf (parentPaths table h)) f A in
+    record { premises = own; conclusion = equals (endsOf f) } ∷
     flatMap
     (λ h. flatMap (λ p. clausesOf (path (h .older) (p .left) (p .right))) (flatMap premisesOf (parentPaths table h)))
     (f .hops)
 
 -- "Path clauses: those of its factors"
 unfoldable pub pathClauses : ℕ → List Term → Path → List Clause
-unfolding factorClauses premises factors flatMap
 pathClauses zero table π = []
-pathClauses (suc d) table π = flatMap (λ f. factorClauses (premises d table) (pathClauses d table) table f (f .colour)) (factors π)
+pathClauses (suc d) table π =
+    flatMap (λ f. factorClauses (premises d table) (pathClauses d table) table f (f .colour)) (factors π)

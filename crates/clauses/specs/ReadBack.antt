@@ -13,12 +13,11 @@ pairRead r = pair (wordAt r 2) (wordAt r 4)
 
 -- "2 equal, 3 different, 4 false"; there is no other kind of conclusion
 unfoldable pub conclusionRead : List ℕ → Conclusion
-unfolding pairRead
-conclusionRead r = cond (eqb (byteAt r 0) 2) (equals (pairRead r)) (cond (eqb (byteAt r 0) 3) (differs (pairRead r)) falsum)
+conclusionRead r =
+    cond (eqb (byteAt r 0) 2) (equals (pairRead r)) (cond (eqb (byteAt r 0) 3) (differs (pairRead r)) falsum)
 
 -- "A clause is its premises .., then one record of kind 2, 3 or 4": the clauses of the records, after some premises
 unfoldable pub clausesAfter : List Pair → List (List ℕ) → List Clause
-unfolding pairRead conclusionRead
 clausesAfter ps [] = []
 clausesAfter ps (r ∷ rs) =
     let premise = clausesAfter (ps ++ (pairRead r ∷ [])) rs in
@@ -26,12 +25,6 @@ clausesAfter ps (r ∷ rs) =
     let closed : List Clause = clause ∷ clausesAfter [] rs in
     cond (eqb (byteAt r 0) 1) premise closed
 
--- the clauses of a list of records
-unfoldable pub clausesOf : List (List ℕ) → List Clause
-unfolding clausesAfter
-clausesOf rs = clausesAfter [] rs
-
 -- the clauses of the first records of a byte string, so many of them
 unfoldable pub clausesRead : ℕ → List ℕ → List Clause
-unfolding clausesOf
-clausesRead count bytes = clausesOf (map (recordAt 8 bytes) (below count))
+clausesRead count bytes = clausesAfter [] (map (recordAt 8 bytes) (below count))

@@ -23,7 +23,6 @@ unfoldable pub contradicted : List Literal → Graph → ℕ → Bool
 contradicted ls G i = not (isEqual (literalAt ls i .kind)) && joined G (literalAt ls i .left) (literalAt ls i .right)
 
 unfoldable pub critical : List Literal → Graph → Option ℕ
-unfolding contradicted
 critical ls G = firstBelow (contradicted ls G) (length ls)
 
 -- "let the middle stretch run from the first to the last B-colourable vertex on the path; outer stretches lie on both sides, and with no such vertex
@@ -44,7 +43,6 @@ fromFirst inB (h ∷ π) =
 
 -- the stretches of a path from u
 unfoldable pub stretches : (ℕ → Bool) → ℕ → Path → Stretches
-unfolding fromFirst
 stretches inB u [] = record { before = []; middle = []; after = [] }
 stretches inB u (h ∷ π) =
     let here = fromFirst inB (h ∷ π) in
@@ -58,7 +56,6 @@ endOf v (h ∷ π) = endOf (h .to) π
 
 -- "not [middle]"; "An empty middle stretch gives kind 4"
 unfoldable pub notMiddle : Path → Conclusion
-unfolding endOf
 notMiddle [] = falsum
 notMiddle (h ∷ π) = differs (between (h .from) (endOf (h .to) π))
 
@@ -72,11 +69,9 @@ module _ (ts : List Term) (ls : List Literal) (table : List Term) (G : Graph) wh
 
   -- "Disequality in A": "path clauses of the middle stretch and of the outer premises, and a last clause "outer premises imply not [middle]""
   unfoldable pub outerPremises : Stretches → List Pair
-  unfolding premises flatMap
   outerPremises z = premisesIn (z .before) ++ premisesIn (z .after)
 
   unfoldable pub readA : Stretches → List Clause
-  unfolding outerPremises pathClauses flatMap notMiddle
   readA z =
       clausesIn (z .middle) ++
       flatMap (λ p. clausesIn (path G (p .left) (p .right))) (outerPremises z) ++
@@ -84,10 +79,8 @@ module _ (ts : List Term) (ls : List Literal) (table : List Term) (G : Graph) wh
 
   -- the clauses of a disequality between s and t, by its side. "Disequality in B: the path clauses of the path between its sides."
   unfoldable pub readBetween : Side → ℕ → ℕ → List Clause
-  unfolding readA stretches colourable
   readBetween B s t = clausesIn (path G s t)
   readBetween A s t = readA (stretches (colourable ts ls B table) s (path G s t))
 
   unfoldable pub summary : Literal → List Clause
-  unfolding readBetween
   summary l = readBetween (l .side) (l .left) (l .right)

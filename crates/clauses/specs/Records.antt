@@ -12,7 +12,6 @@ amongPairs ps p = any (samePair p) ps
 
 -- "each once, ascending by left and then right": the pairs of a list, of term numbers below n
 unfoldable pub ascending : ℕ → List Pair → List Pair
-unfolding amongPairs
 ascending n ps = keep (amongPairs ps) (pairsBelow n)
 
 -- the clause concludes this equality
@@ -41,7 +40,6 @@ inOrder n c = record { premises = ascending n (c .premises); conclusion = c .con
 
 -- "Clauses stand once each, ascending by conclusion; a clause of kind 3 or 4 is last."
 unfoldable pub standing : ℕ → List Clause → List Clause
-unfolding ascending concludes isLast firstAlone keep flatMap
 standing n cs =
     map (inOrder n)
     (flatMap (λ p. firstAlone (keep (concluding p) cs)) (pairsBelow n) ++
@@ -53,17 +51,14 @@ clauseRecord kind p = (kind ∷ 0 ∷ wordBytes (p .left)) ++ wordBytes (p .righ
 
 -- "in kind 4 both are 0"
 unfoldable pub conclusionRecord : Conclusion → List ℕ
-unfolding clauseRecord
 conclusionRecord (equals p) = clauseRecord 2 p
 conclusionRecord (differs p) = clauseRecord 3 p
 conclusionRecord falsum = clauseRecord 4 (pair 0 0)
 
 -- a clause as its records: its premises, "then one record of kind 2, 3 or 4"
 unfoldable pub recordsOf : Clause → List (List ℕ)
-unfolding clauseRecord conclusionRecord
 recordsOf c = map (clauseRecord 1) (c .premises) ++ (conclusionRecord (c .conclusion) ∷ [])
 
 -- all clause records of a summary, over term numbers below n. "No record at all means true."
 unfoldable pub clauseRecords : ℕ → List Clause → List (List ℕ)
-unfolding standing recordsOf flatMap
 clauseRecords n cs = flatMap recordsOf (standing n cs)

@@ -22,7 +22,8 @@ TrueConclusion I table falsum = ⊥
 
 -- a clause is true when its conclusion is, or some premise is not: premises imply conclusion
 abbrev pub TrueClause : (I : Interpretation) → List Term → Clause → Type 0
-TrueClause I table c = ((p : Pair) → List·Memᴰ p (c .premises) → TrueEquality I table p) → TrueConclusion I table (c .conclusion)
+TrueClause I table c =
+    ((p : Pair) → List·Memᴰ p (c .premises) → TrueEquality I table p) → TrueConclusion I table (c .conclusion)
 
 -- all clauses of a summary are true
 abbrev pub TrueClauses : (I : Interpretation) → List Term → List Clause → Type 0
@@ -42,7 +43,8 @@ SharedConclusion ts ls table falsum = Unit {0}
 
 -- "use only shared symbols"
 abbrev pub SharedClause : List Term → List Literal → List Term → Clause → Type 0
-SharedClause ts ls table c = ((p : Pair) → List·Memᴰ p (c .premises) → SharedPair ts ls table p) × SharedConclusion ts ls table (c .conclusion)
+SharedClause ts ls table c =
+    ((p : Pair) → List·Memᴰ p (c .premises) → SharedPair ts ls table p) × SharedConclusion ts ls table (c .conclusion)
 
 -- demand 3 of a summary: "use only shared symbols, hold in every interpretation that satisfies A, and are never all true in one that satisfies B"
 pub record Summarises (ts : List Term) (ls : List Literal) (table : List Term) (cs : List Clause) : Type 1 where

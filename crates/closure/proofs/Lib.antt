@@ -1,4 +1,5 @@
 -- Theorems about the definitions of specs/.
+pub mod Computing
 pub mod Walking
 pub mod Running
 pub mod Entailing

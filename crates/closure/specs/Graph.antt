@@ -25,7 +25,6 @@ label (e ∷ G) v =
 
 -- "Two terms are joined when a path connects them": the test. What it tests is `Walk` below.
 unfoldable pub joined : Graph → ℕ → ℕ → Bool
-unfolding label
 joined G u v = eqb (label G u) (label G v)
 
 -- one edge as a path walks it, with the edges that are older than it
@@ -48,7 +47,6 @@ back e G = record { from = e .right; to = e .left; colour = e .colour; kind = e 
 
 -- The path between two joined terms: that of the older edges where these join them, else by way of the newest edge.
 unfoldable pub path : Graph → ℕ → ℕ → Path
-unfolding joined
 path [] u v = []
 path (e ∷ G) u v =
     let forward = path G u (e .left) ++ (forth e G ∷ path G (e .right) v) in
@@ -62,7 +60,6 @@ vertices u π = u ∷ map (λ h. h .to) π
 
 -- "their arguments are joined pair by pair"
 unfoldable pub joinedPairwise : Graph → List ℕ → List ℕ → Bool
-unfolding joined
 joinedPairwise G [] [] = Bool.true
 joinedPairwise G [] (y ∷ ys) = Bool.false
 joinedPairwise G (x ∷ xs) [] = Bool.false
@@ -70,7 +67,6 @@ joinedPairwise G (x ∷ xs) (y ∷ ys) = joined G x y && joinedPairwise G xs ys
 
 -- "The paths between paired arguments are the edge's parent paths": those of terms s and t in a graph
 unfoldable pub pathsBetween : Graph → List ℕ → List ℕ → List Path
-unfolding path zipWith
 pathsBetween G = zipWith (path G)
 
 -- the parent paths of an edge as it is walked: a basic edge has none
@@ -79,5 +75,5 @@ parentsOf basic paths = []
 parentsOf derived paths = paths
 
 unfoldable pub parentPaths : List Term → Hop → List Path
-unfolding parentsOf pathsBetween
-parentPaths table h = parentsOf (h .kind) (pathsBetween (h .older) (termAt table (h .from) .arguments) (termAt table (h .to) .arguments))
+parentPaths table h =
+    parentsOf (h .kind) (pathsBetween (h .older) (termAt table (h .from) .arguments) (termAt table (h .to) .arguments))

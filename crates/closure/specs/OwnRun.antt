@@ -1,7 +1,7 @@
 -- 01, "The library's own run".
 use mathlib.Core.Bool.{Bool, cond, not, _&&_}
 use mathlib.Core.List.{List, [], _∷_}
-use mathlib.Core.Option.{Option, some, none}
+use mathlib.Core.Option.{Option, some, none, Option·map}
 use Prim.Native.Nat.{ℕ, zero, suc}
 use lib.ListN.{length}
 use Rattle.tables.specs.Words.{Pair, firstOf, pairsBelow}
@@ -14,7 +14,6 @@ use Rattle.closure.specs.Steps.{State, begin, tableOf, congruent, withEd
 
 -- "all basic steps by record number, skipping joined sides"
 unfoldable pub basicSteps : List Literal → State → State
-unfolding joined
 basicSteps [] st = st
 basicSteps (l ∷ ls) st =
     basicSteps ls
@@ -24,7 +23,6 @@ basicSteps (l ∷ ls) st =
 
 -- a derived step can be taken between s and t: they are given terms in use, unjoined, and congruent
 unfoldable pub derivable : List Term → List Literal → State → Pair → Bool
-unfolding joined congruent
 derivable ts ls st p =
     congruent (tableOf ts st) (st .graph) (p .left) (p .right) &&
     (inUse ts ls (p .left) && inUse ts ls (p .right)) &&
@@ -32,7 +30,6 @@ derivable ts ls st p =
 
 -- "the first pair (s below t, smallest s, then smallest t) among the given terms in use"
 unfoldable pub firstPair : List Term → List Literal → State → Option Pair
-unfolding derivable
 firstPair ts ls st = firstOf (derivable ts ls st) (pairsBelow (length ts))
 
 -- "The chosen shared term is the first met on the parent path from the argument of the end that is A-colourable only": on each of the parent paths,
@@ -43,7 +40,6 @@ andThen (some m) none = none
 andThen (some m) (some ms) = some (m ∷ ms)
 
 unfoldable pub firstShared : List Term → List Literal → List Term → Graph → List ℕ → List ℕ → Option (List ℕ)
-unfolding andThen path shared
 firstShared ts ls table G [] [] = some []
 firstShared ts ls table G [] (b ∷ bs) = some []
 firstShared ts ls table G (a ∷ as′) [] = some []
@@ -51,20 +47,14 @@ firstShared ts ls table G (a ∷ as′) (b ∷ bs) =
     andThen (firstOf (shared ts ls table) (vertices a (path G a b))) (firstShared ts ls table G as′ bs)
 
 -- the middle step between an end s that is A-colourable only and t, or nothing: row 8, "a middle term is needed and a parent path has no shared term"
-unfoldable pub middleBy : List Term → List Literal → State → ℕ → ℕ → Option (List ℕ) → Option State
-unfolding withMiddle
-middleBy ts ls st s t none = none
-middleBy ts ls st s t (some chosen) = some (withMiddle ts ls st s t chosen)
-
 unfoldable pub middleFrom : List Term → List Literal → State → ℕ → ℕ → Option State
-unfolding middleBy firstShared
 middleFrom ts ls st s t =
-    middleBy ts ls st s t
-    (firstShared ts ls (tableOf ts st) (st .graph) (termAt (tableOf ts st) s .arguments) (termAt (tableOf ts st) t .arguments))
+    let table = tableOf ts st in
+    Option·map (withMiddle ts ls st s t)
+    (firstShared ts ls table (st .graph) (termAt table s .arguments) (termAt table t .arguments))
 
 -- the derived step between s and t: "A derived edge is B where both ends are B-colourable, else A"; where it is neither, a middle term is needed
 unfoldable pub derivedStep : List Term → List Literal → State → Pair → Option State
-unfolding edgeColourable colourable middleFrom
 derivedStep ts ls st p =
     let s = p .left in
     let t = p .right in
@@ -82,9 +72,8 @@ derivedStep ts ls st p =
 unfoldable pub turnsAt : (State → Option Pair) → (State → Pair → Option State) → ℕ → State → Option State
 turnsAt find step zero st = some st
 turnsAt find step (suc k) st =
-    elim (find st) [ none ↦ some st | some p ↦ elim (step st p) [ none ↦ none | some after ↦ turnsAt find step k after ] ]
+    elim (find st) [ none ↦ some st | some p ↦ elim (step st p) [ none ↦ none | some st′ ↦ turnsAt find step k st′ ] ]
 
 -- the run's last state, or nothing where row 8 refuses
 unfoldable pub ownRun : List Term → List Literal → Option State
-unfolding turnsAt basicSteps firstPair derivedStep
 ownRun ts ls = turnsAt (firstPair ts ls) (derivedStep ts ls) (length ts) (basicSteps ls begin)

@@ -13,7 +13,7 @@ use Rattle.tables.specs.LiteralTable.{Literal, equal}
 use Rattle.tables.specs.declared.Side.{Side}
 use Rattle.tables.specs.declared.Side.the-variants.{A, B}
 use Rattle.tables.specs.Colours.{inUse, colourable, shared, edgeColourable}
-use Rattle.closure.specs.Graph.{EdgeKind, basic, derived, Graph, joined, path, vertices, joinedPairwise}
+use Rattle.closure.specs.Graph.{Edge, EdgeKind, basic, derived, Graph, joined, path, vertices, joinedPairwise}
 
 -- What a run has made so far: the added terms in order of adding, and the graph's edges.
 pub record State : Type 0 where
@@ -34,14 +34,15 @@ vertex ts ls st v = cond (ltb v (length ts)) (inUse ts ls v) (ltb v (length (tab
 
 -- derived steps: "s and t have one symbol, and their arguments are joined pair by pair"
 unfoldable pub congruent : List Term → Graph → ℕ → ℕ → Bool
-unfolding joinedPairwise
 congruent table G s t =
     eqb (termAt table s .symbol) (termAt table t .symbol) &&
     joinedPairwise G (termAt table s .arguments) (termAt table t .arguments)
 
 -- one edge more
 abbrev pub withEdge : State → ℕ → ℕ → Side → EdgeKind → State
-withEdge st s t colour kind = record { added = st .added; graph = record { left = s; right = t; colour = colour; kind = kind } ∷ st .graph }
+withEdge st s t colour kind =
+    let edge : Edge = record { left = s; right = t; colour = colour; kind = kind } in
+    record { added = st .added; graph = edge ∷ st .graph }
 
 -- "A shared term is chosen on each parent path, and the middle term has the same symbol over those."
 abbrev pub middleTerm : List Term → ℕ → List ℕ → Term
@@ -52,7 +53,6 @@ unfoldable pub equalTerms : Term → Term → Bool
 equalTerms x y = eqb (x .symbol) (y .symbol) && same (x .arguments) (y .arguments)
 
 unfoldable pub vertexEqual : List Term → List Literal → State → Term → Option ℕ
-unfolding vertex equalTerms
 vertexEqual ts ls st m =
     firstBelow (λ v. vertex ts ls st v && equalTerms (termAt (tableOf ts st) v) m) (length (tableOf ts st))
 
@@ -67,21 +67,17 @@ placeAs ts st m none =
     record { state = record { added = st .added ++ (m ∷ []); graph = st .graph }; number = length (tableOf ts st) }
 
 unfoldable pub placed : List Term → List Literal → State → Term → Placed
-unfolding placeAs vertexEqual
 placed ts ls st m = placeAs ts st m (vertexEqual ts ls st m)
 
 -- "each of s and t not yet joined to it gets a derived edge to it": one end's part of that, in the end's colour
 unfoldable pub tied : State → ℕ → ℕ → Side → State
-unfolding joined
 tied st s m colour = cond (joined (st .graph) s m) st (withEdge st s m colour derived)
 
 -- the whole of it, for an end s that is A-colourable only and an end t that is B-colourable only. Which edge is first shows nowhere.
 unfoldable pub tiedBoth : Placed → ℕ → ℕ → State
-unfolding tied
 tiedBoth p s t = tied (tied (p .state) s (p .number) A) t (p .number) B
 
 unfoldable pub withMiddle : List Term → List Literal → State → ℕ → ℕ → List ℕ → State
-unfolding placed tiedBoth
 withMiddle ts ls st s t chosen = tiedBoth (placed ts ls st (middleTerm (tableOf ts st) s chosen)) s t
 
 -- "an equality record has the sides s and t"
@@ -90,22 +86,31 @@ HasSides l s t = ((l .left ≡ s) × (l .right ≡ t)) ⊎ ((l .left ≡ t) × (
 
 -- the end s "is A-colourable only" (or t B-colourable only)
 unfoldable pub colourableOnly : List Term → List Literal → Side → Side → List Term → ℕ → Bool
-unfolding colourable
 colourableOnly ts ls X Y table v = colourable ts ls X table v && not (colourable ts ls Y table v)
 
 -- the chosen terms: each is shared and stands on its parent path, in the order of the arguments
-pub data Chosen (ts : List Term) (ls : List Literal) (table : List Term) (G : Graph) : List ℕ → List ℕ → List ℕ → Type 0 where
+pub data Chosen (ts : List Term) (ls : List Literal) (table : List Term) (G : Graph) :
+    List ℕ → List ℕ → List ℕ → Type 0 where
   chosen-none : Chosen ts ls table G [] [] []
-  chosen-next : {a b m : ℕ} {as′ bs ms : List ℕ} → T (shared ts ls table m) → List·Memᴰ m (vertices a (path G a b)) → Chosen ts ls table G as′ bs ms → Chosen ts ls table G (a ∷ as′) (b ∷ bs) (m ∷ ms)
+  chosen-next : {a b m : ℕ} {as′ bs ms : List ℕ} → T (shared ts ls table m) → List·Memᴰ m (vertices a (path G a b)) →
+      Chosen ts ls table G as′ bs ms → Chosen ts ls table G (a ∷ as′) (b ∷ bs) (m ∷ ms)
 
 -- "A step is taken only between unjoined terms s and t"
 pub data Step (ts : List Term) (ls : List Literal) (st : State) : State → Type 0 where
   -- "basic: an equality record has the sides s and t. The edge's colour is that record's side."
-  basic-step : (l : Literal) (s t : ℕ) → List·Memᴰ l ls → l .kind ≡ equal → HasSides l s t → T (not (joined (st .graph) s t)) → Step ts ls st (withEdge st s t (l .side) basic)
+  basic-step : (l : Literal) (s t : ℕ) → List·Memᴰ l ls → l .kind ≡ equal → HasSides l s t →
+      T (not (joined (st .graph) s t)) → Step ts ls st (withEdge st s t (l .side) basic)
   -- "derived": between any vertices; the colour is one that both ends have, so a free choice where both are shared
-  derived-step : (s t : ℕ) (colour : Side) → T (vertex ts ls st s) → T (vertex ts ls st t) → T (not (joined (st .graph) s t)) → T (congruent (tableOf ts st) (st .graph) s t) → T (edgeColourable ts ls colour (tableOf ts st) s t) → Step ts ls st (withEdge st s t colour derived)
+  derived-step : (s t : ℕ) (colour : Side) → T (vertex ts ls st s) → T (vertex ts ls st t) →
+      T (not (joined (st .graph) s t)) → T (congruent (tableOf ts st) (st .graph) s t) →
+      T (edgeColourable ts ls colour (tableOf ts st) s t) → Step ts ls st (withEdge st s t colour derived)
   -- "If a derived edge is not colourable, one end, s, is A-colourable only and t is B-colourable only."
-  middle-step : (s t : ℕ) (chosen : List ℕ) → T (vertex ts ls st s) → T (vertex ts ls st t) → T (not (joined (st .graph) s t)) → T (congruent (tableOf ts st) (st .graph) s t) → T (colourableOnly ts ls A B (tableOf ts st) s) → T (colourableOnly ts ls B A (tableOf ts st) t) → Chosen ts ls (tableOf ts st) (st .graph) (termAt (tableOf ts st) s .arguments) (termAt (tableOf ts st) t .arguments) chosen → Step ts ls st (withMiddle ts ls st s t chosen)
+  middle-step : (s t : ℕ) (chosen : List ℕ) → T (vertex ts ls st s) → T (vertex ts ls st t) →
+      T (not (joined (st .graph) s t)) → T (congruent (tableOf ts st) (st .graph) s t) →
+      T (colourableOnly ts ls A B (tableOf ts st) s) → T (colourableOnly ts ls B A (tableOf ts st) t) →
+      Chosen ts ls (tableOf ts st) (st .graph)
+      (termAt (tableOf ts st) s .arguments) (termAt (tableOf ts st) t .arguments) chosen →
+      Step ts ls st (withMiddle ts ls st s t chosen)
 
 -- a run: any steps, one after the other, from the beginning; k counts them
 pub data Run (ts : List Term) (ls : List Literal) : ℕ → State → Type 0 where

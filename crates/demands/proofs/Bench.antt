@@ -7,16 +7,7 @@ use Rattle.demands.specs.declared.Answer.the-variants.{Consistent, Incon
 use Rattle.demands.specs.Call.{judged}
 use Rattle.demands.specs.Buffers.{Buffers, Returned}
 use Rattle.demands.specs.Answers.{numbersOf}
-use Rattle.tables.specs.Words.{below, any, every, keep, among, same, firstOf, pairsBelow}
-use Rattle.tables.specs.Terms.{downTo, down, parts, symbols}
-use Rattle.tables.specs.TermTable.{termsOf}
-use Rattle.tables.specs.Tests.{breaksLayout, hadOtherArity, equalsEarlier}
-use Rattle.tables.specs.LiteralTable.{literalsOf}
-use Rattle.tables.specs.Tests.{breaksLiteral}
-use Rattle.tables.specs.Checks.{checked}
-use Rattle.tables.specs.Colours.{inUse, shared}
-use Rattle.closure.specs.Graph.{parentPaths}
-use Rattle.clauses.specs.Clauses.{between}
+use Rattle.demands.proofs.Computing.{computing}
 
 -- one case: the tables, and what comes back
 pub record Case : Type 0 where
@@ -196,5 +187,5 @@ benchCases = p1 ∷ p2 ∷ p3 ∷ p4 ∷ p5 ∷ p6 ∷ p7 ∷ p8 ∷ p9 ∷ p10 
 
 -- each of the eleven cases comes back as 01 prints it
 pub bench : map (λ c. judged (bytes (c .terms)) (bytes (c .literals)) lent) benchCases ≡ map (λ c. c .returned) benchCases
-unfolding benchCases bytes lent judged flatMap zipWith below any every keep among same firstOf pairsBelow downTo down parts symbols breaksLayout hadOtherArity equalsEarlier termsOf breaksLiteral literalsOf checked inUse shared parentPaths between
+unfolding computing benchCases bytes lent
 bench = refl

@@ -1,4 +1,5 @@
 -- Theorems about the definitions of specs/.
+pub mod Computing
 pub mod Bench
 pub mod AddedTerms
 pub mod Critical

@@ -46,7 +46,7 @@ use Rattle.demands.specs.Buffers.{Buffers, Returned, classNumber, termBy
 use Rattle.demands.specs.Verdicts.{Verdict, recordsIn, answered}
 use Rattle.demands.specs.Refusals.{rowsOf}
 use Rattle.demands.specs.Call.{refused, judged, Called}
-use Rattle.demands.specs.Demands.{Demand1, Classes, Demand2, Demand3, Demands, usedTerms}
+use Rattle.demands.specs.Demands.{Demand1, Classes, Demand2, Demand3, Demands}
 use Rattle.demands.proofs.AddedTerms.{addedBytes, addedBytes-length, table-read}
 use Rattle.demands.proofs.AddedFit.{added-fits}
 use Rattle.demands.proofs.Critical.{critical-found, critical-none}
@@ -172,9 +172,10 @@ module _ (terms literals : List ℕ) (bs : Buffers) where
   demand-1 {r} (refused-way m q x e) same =
       record {
         refusal-exactly = λ n p. (
-            λ z. let one : numbersOf (Refused m q) ≡ numbersOf (Refused n p) = sym (ap (λ (y : Returned). y .numbers) e) ∙ z in
-            subst₂ (Refuses (rowsOf terms literals bs)) (ap (λ (y : Numbers). y .number) one) (ap (λ (y : Numbers). y .place) one) x,
-            λ z. ap (λ (y : Returned). y .numbers) (same ∙ refusal-given terms literals bs n p z));
+          λ z. let one : numbersOf (Refused m q) ≡ numbersOf (Refused n p) = sym (ap (λ (y : Returned). y .numbers) e) ∙ z in
+              subst₂ (Refuses (rowsOf terms literals bs)) (ap (λ (y : Numbers). y .number) one) (ap (λ (y : Numbers). y .place) one) x,
+          λ z. ap (λ (y : Returned). y .numbers) (same ∙ refusal-given terms literals bs n p z),
+        );
         refused-changes-nothing = λ n p z. ap (λ (y : Returned). y .buffers) e;
       }
   demand-1 {r} (answered-way st o good v e) same =

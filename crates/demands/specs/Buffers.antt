@@ -27,19 +27,16 @@ pub record Returned : Type 0 where
 
 -- "the lowest number of a given term in its class; a term not in use gets 65535"
 unfoldable pub classNumber : List Term → List Literal → Graph → ℕ → ℕ
-unfolding joined
 classNumber ts ls G t =
     let lowest = Option·getD (firstBelow (λ u. inUse ts ls u && joined G u t) (length ts)) 65535 in
     cond (inUse ts ls t) lowest 65535
 
 -- "the partition buffer's first 2n bytes hold, for each of the n terms" that number
 unfoldable pub partitionBytes : List Term → List Literal → Graph → List ℕ
-unfolding classNumber flatMap
 partitionBytes ts ls G = flatMap (λ t. wordBytes (classNumber ts ls G t)) (below (length ts))
 
 -- "the added terms (16 bytes each ..)": a term record
 unfoldable pub termBytes : Term → List ℕ
-unfolding flatMap
 termBytes m =
     wordBytes (m .symbol) ++ (length (m .arguments) ∷ 0 ∷ []) ++
     flatMap wordBytes (take 4 (m .arguments ++ (0 ∷ 0 ∷ 0 ∷ 0 ∷ []))) ++

@@ -32,8 +32,7 @@ use Rattle.demands.specs.Refusals.{rowsOf}
 -- "A refusal has the number and place of document 01, comes only where 01 says, and changes no output byte."
 pub record Demand1 (terms literals : List ℕ) (bs : Buffers) (r : Returned) : Type 0 where
   -- 01: "A refusal returns its number and place, its other numbers are 0"
-  pub refusal-exactly : (n p : ℕ) →
-      (r .numbers ≡ numbersOf (Refused n p)) ↔ Refuses (rowsOf terms literals bs) n p
+  pub refusal-exactly : (n p : ℕ) → (r .numbers ≡ numbersOf (Refused n p)) ↔ Refuses (rowsOf terms literals bs) n p
   pub refused-changes-nothing : (n p : ℕ) → r .numbers ≡ numbersOf (Refused n p) → r .buffers ≡ bs
 
 -- what the partition's bytes hold: p is the partition buffer at exit
@@ -60,14 +59,10 @@ pub record Demand2 (ts : List Term) (ls : List Literal) (bs : Buffers) (r : Retu
   -- "else it returns 01's added terms and clauses, byte for byte": all that comes back, for either verdict
   pub bytes : (st : State) × (o : Option ℕ) × Verdict ts ls st o × (r ≡ answered ts ls bs st o)
 
--- the terms in use
-abbrev pub usedTerms : List Term → List Literal → List ℕ
-usedTerms ts ls = keep (inUse ts ls) (below (length ts))
-
 -- "Closure steps in any allowed order, with any allowed middle terms and colours"
 pub record Demand3 (ts : List Term) (ls : List Literal) : Type 1 where
   -- "every run ends": once it has a step, it has fewer steps than there are terms in use
-  pub run-ends : {k : ℕ} {st : State} → Run ts ls k st → 0 < k → k < length (usedTerms ts ls)
+  pub run-ends : {k : ℕ} {st : State} → Run ts ls k st → 0 < k → k < length (keep (inUse ts ls) (below (length ts)))
   -- "all that are carried to their end have the same classes for the terms in use"
   pub runs-agree : {k j : ℕ} {st other : State} →
       Run ts ls k st → NoStepLeft ts ls st → Run ts ls j other → NoStepLeft ts ls other →

@@ -21,7 +21,6 @@ pub record Verdict (ts : List Term) (ls : List Literal) (st : State) (o : Option
 
 -- the summary's clause records in a state: those of the literal, over all given and added terms
 unfoldable pub recordsIn : List Term → List Literal → State → Literal → List (List ℕ)
-unfolding clauseRecords summary
 recordsIn ts ls st l = clauseRecords (length (tableOf ts st)) (summary ts ls (tableOf ts st) (st .graph) l)
 
 -- "Consistent: the partition buffer's first 2n bytes hold" the classes; "the buffers of the other verdict, keep their content"

@@ -10,7 +10,7 @@ use lib.Seq.{getD-take, getD-drop}
 use borrow.Author.Tests.{eq-eqb, ne-eqb}
 use Rattle.tables.specs.Words.{below, Pair}
 use Rattle.tables.specs.Bytes.{byteAt, wordAt, recordAt}
-use Rattle.clauses.specs.ReadBack.{pairRead, conclusionRead, clausesAfter, clausesOf, clausesRead}
+use Rattle.clauses.specs.ReadBack.{pairRead, conclusionRead, clausesAfter, clausesRead}
 use Rattle.report.specs.Page.{Page, puts}
 use Rattle.report.specs.Text.{ascii, pairText, andPair, premisesText, conclusionText, clauseLine}
 use Rattle.report.specs.Records.{upFrom, pairsFrom, clauseOf}
@@ -139,7 +139,7 @@ left bs s i k = flatMap clauseLine (clausesAfter (pairsFrom bs s (i - s)) (map (
 
 -- at first all lines are left
 pub left-all : (bs : List ℕ) (k : ℕ) → left bs 0 0 k ≡ flatMap clauseLine (clausesRead k bs)
-unfolding left pairsFrom upFrom clausesRead clausesOf
+unfolding left pairsFrom upFrom clausesRead
 left-all bs k = ap (λ (ks : List ℕ). flatMap clauseLine (clausesAfter [] (map (recordAt 8 bs) ks))) (sym (below-upFrom k ∙ ap (upFrom 0) whole))
   where
     whole : k ≡ k - 0

@@ -11,7 +11,7 @@ use lib.Seq.{take-all}
 use Rattle.tables.specs.Words.{below, Pair}
 use Rattle.tables.specs.Bytes.{AllBytes, byteAt, wordAt, recordAt, countOf}
 use Rattle.tables.proofs.Words.{by-test, below-or-not, getD-mem, below-mem, length-below}
-use Rattle.clauses.specs.ReadBack.{pairRead, conclusionRead, clausesAfter, clausesOf, clausesRead}
+use Rattle.clauses.specs.ReadBack.{pairRead, conclusionRead, clausesAfter, clausesRead}
 use Rattle.demands.specs.declared.Answer.{Answer}
 use Rattle.demands.specs.declared.Answer.the-variants.{Consistent, Inconsistent, Refused}
 use Rattle.report.specs.Page.{page, shown}
@@ -153,7 +153,7 @@ module _ (partition added clauses : List ℕ) (given : ℕ) where
 
   -- of an inconsistent one
   inconsistent-few : (d a k : ℕ) → AllBytes added → length clauses ≤ 32768 → ((j : ℕ) → j < min k (countOf 8 clauses) → Short (pairRead (recordAt 8 clauses j))) → (d < 2 ^ 64) × (a < 2 ^ 64) × (k < 2 ^ 64) → length (inconsistentText d a k given added clauses) ≤ 65536
-  unfolding inconsistentText headText endText clausesRead clausesOf
+  unfolding inconsistentText headText endText clausesRead
   inconsistent-few d a k b l short n =
       let terms = below-few 38 (min a 255) (addedLine (min given 256) added) (λ i h. added-few (min given 256) added b i (omega arith) (omega arith)) in
       let records = map (recordAt 8 clauses) (below (min k (countOf 8 clauses))) in

@@ -2,7 +2,7 @@
 use mathlib.Core.Bool.{Bool, true, false, not}
 use mathlib.Core.List.{List, [], _∷_, _++_, map, append-assoc}
 use mathlib.Core.Logic.{inr, ⊎-elim}
-use mathlib.Core.Option.{Option, some, none}
+use mathlib.Core.Option.{Option, some, none, Option·map}
 use mathlib.Core.Path.{_≡_, sym, ap, subst, _∙_}
 use Prim.Native.Nat.{ℕ, _≤_, _<_}
 use native.Mathlib.Omega.{arith}
@@ -17,7 +17,7 @@ use Rattle.tables.proofs.Words.{and-both, below-or-not}
 use Rattle.tables.proofs.Colours.{inUse-within}
 use Rattle.closure.specs.Graph.{Graph, label, joined, joinedPairwise}
 use Rattle.closure.specs.Steps.{State, tableOf, vertex, middleTerm, vertexEqual, Placed, placeAs, placed, tied, tiedBoth, withMiddle, colourableOnly, Chosen, Step, middle-step, next}
-use Rattle.closure.specs.OwnRun.{firstShared, middleBy, middleFrom}
+use Rattle.closure.specs.OwnRun.{firstShared, middleFrom}
 use Rattle.closure.specs.Forests.{Forest, EndsBelow}
 use Rattle.graphs.specs.Layout.{edgesOf, labelsOf}
 use Rattle.graphs.specs.Rooting.{RootedBy}
@@ -191,8 +191,8 @@ module _ {a : Arrays} (run : OnRun a) where
 
     -- and the one that the library takes
     pub middle-taken : middleFrom ts ls st s t ≡ some (withMiddle ts ls st s t terms)
-    unfolding middleFrom middleBy
-    middle-taken = ap (middleBy ts ls st s t) (found .1)
+    unfolding middleFrom
+    middle-taken = ap (Option·map (withMiddle ts ls st s t)) (found .1)
 
     -- each end may be tied to the middle term in its place
     ready : Ready ts ls s t (placed ts ls st middle)

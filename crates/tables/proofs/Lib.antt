@@ -1,4 +1,5 @@
 -- Theorems about the definitions of specs/.
+pub mod Computing
 pub mod Words
 pub mod WordBytes
 pub mod Terms

@@ -10,7 +10,7 @@ use lib.Dec.{T, eqb, ltb}
 use lib.ListN.{length}
 use Rattle.tables.specs.TermTable.{termCount, termRecord}
 use Rattle.tables.specs.LiteralTable.{literalCount, literalRecord}
-use Rattle.tables.specs.Rows.{Row, row, Refuses, LowerPlace, NotMultiple, LayoutFault, HadOtherArity, EqualsEarlier, LiteralFault, tableRows, Accepted}
+use Rattle.tables.specs.Rows.{Row, row, Refuses, LowerPlace, LayoutFault, HadOtherArity, EqualsEarlier, LiteralFault, tableRows, Accepted}
 use Rattle.tables.specs.Tests.{breaksLayout, hadOtherArity, equalsEarlier, breaksLiteral}
 use Rattle.tables.specs.Checks.{foundOf, placeOf, lengthRow, countRow, layoutRow, arityRow, repeatedRow, literalRow, refuse, checked, numberOf, placeIn}
 use Rattle.tables.specs.declared.Found.{Found}

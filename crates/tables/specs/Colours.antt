@@ -16,15 +16,12 @@ occursIn ts ls X f = any (λ l. sameSide (l .side) X && among f (symbols ts (l .
 
 -- "A term is A-colourable when each of its symbols occurs in some A literal; B-colourable likewise". The term is of the table.
 unfoldable pub colourable : List Term → List Literal → Side → List Term → ℕ → Bool
-unfolding occursIn
 colourable ts ls X table t = every (occursIn ts ls X) (symbols table t)
 
 -- "shared when both"
 unfoldable pub shared : List Term → List Literal → List Term → ℕ → Bool
-unfolding colourable
 shared ts ls table t = colourable ts ls A table t && colourable ts ls B table t
 
 -- "An edge is A- or B-colourable when both ends are (001, 4.3)."
 unfoldable pub edgeColourable : List Term → List Literal → Side → List Term → ℕ → ℕ → Bool
-unfolding colourable
 edgeColourable ts ls X table s t = colourable ts ls X table s && colourable ts ls X table t

@@ -29,7 +29,6 @@ HoldsAs I ts equal s t = value I ts s ≡ value I ts t
 HoldsAs I ts different s t = value I ts s ≡ value I ts t → ⊥
 
 unfoldable pub Holds : (I : Interpretation) → List Term → Literal → Type 0
-unfolding HoldsAs
 Holds I ts l = HoldsAs I ts (l .kind) (l .left) (l .right)
 
 -- the interpretation satisfies A: every literal of side A holds; B likewise

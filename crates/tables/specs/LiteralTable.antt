@@ -39,9 +39,10 @@ literalRecord bs k = recordAt 8 bs k
 -- the literal that a record describes
 unfoldable pub literalOf : List ℕ → Literal
 literalOf r =
-    record { side = cond (eqb (byteAt r 0) 1) A B; kind = cond (eqb (byteAt r 1) 1) equal different; left = wordAt r 2; right = wordAt r 4 }
+    let side = cond (eqb (byteAt r 0) 1) A B in
+    let kind = cond (eqb (byteAt r 1) 1) equal different in
+    record { side = side; kind = kind; left = wordAt r 2; right = wordAt r 4 }
 
 -- the table read, in the order of its records
 unfoldable pub literalsOf : List ℕ → List Literal
-unfolding literalOf
 literalsOf bs = map (λ k. literalOf (literalRecord bs k)) (below (literalCount bs))

@@ -27,10 +27,6 @@ Refuses (r ∷ rs) number place =
 abbrev pub LowerPlace : Type 0 → Type 0 → ℕ → Type 0
 LowerPlace Terms Literals place = ((place ≡ 0) × Terms) ⊎ ((place ≡ 1) × (Terms → ⊥) × Literals)
 
--- row 1, of one table: "length not a multiple" of the size of its records
-abbrev pub NotMultiple : ℕ → List ℕ → Type 0
-NotMultiple size bs = length bs % size ≡ 0 → ⊥
-
 -- row 3, "a term record breaks its layout": how the bytes of term record k do
 pub data LayoutFault (k : ℕ) (r : List ℕ) : Type 0 where
   -- "2 arity (0 to 4)"
@@ -66,7 +62,7 @@ pub data LiteralFault (n : ℕ) (r : List ℕ) : Type 0 where
 -- rows 1 to 6, of the two tables; in rows 3 to 6 the place is "first such record"
 abbrev pub tableRows : List ℕ → List ℕ → List Row
 tableRows ts ls =
-    row 1 (LowerPlace (NotMultiple 16 ts) (NotMultiple 8 ls)) ∷
+    row 1 (LowerPlace (length ts % 16 ≡ 0 → ⊥) (length ls % 8 ≡ 0 → ⊥)) ∷
     row 2 (LowerPlace (256 < termCount ts) (1024 < literalCount ls)) ∷
     row 3 (First (λ k. LayoutFault k (termRecord ts k)) (termCount ts)) ∷
     row 4 (First (HadOtherArity ts) (termCount ts)) ∷

@@ -30,10 +30,8 @@ rowOf r = map (argumentField r) (0 ∷ 1 ∷ 2 ∷ 3 ∷ [])
 
 -- the term that a record describes: its symbol over the used fields of its row
 unfoldable pub termOf : List ℕ → Term
-unfolding rowOf
 termOf r = record { symbol = symbolField r; arguments = take (arityField r) (rowOf r) }
 
 -- the table read: "The term's number is its place from 0."
 unfoldable pub termsOf : List ℕ → List Term
-unfolding termOf
 termsOf bs = map (λ k. termOf (termRecord bs k)) (below (termCount bs))

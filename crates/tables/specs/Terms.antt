@@ -22,15 +22,12 @@ downTo f x ts zero t = x
 downTo f x ts (suc d) t = f t (termAt ts t) (map (downTo f x ts d) (termAt ts t .arguments))
 
 unfoldable pub down {ℓ} : {X : Type ℓ} → (ℕ → Term → List X → X) → X → List Term → ℕ → X
-unfolding downTo
 down f x ts t = downTo f x ts (suc t) t
 
 -- the term's own number and, repeatedly, those of its arguments
 unfoldable pub parts : List Term → ℕ → List ℕ
-unfolding down
 parts = down (λ t term below. t ∷ flatMap (λ ps. ps) below) []
 
 -- 01: "A term's symbols are its own symbol and those of its arguments, all the way down."
 unfoldable pub symbols : List Term → ℕ → List ℕ
-unfolding parts
 symbols ts t = map (λ u. termAt ts u .symbol) (parts ts t)

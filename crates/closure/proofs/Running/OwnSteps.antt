@@ -2,7 +2,7 @@
 use mathlib.Core.Bool.{Bool, true, false, cond, not, _&&_}
 use mathlib.Core.List.{List, [], _∷_, List·Memᴰ, List·Memᴰ·head, List·Memᴰ·tail}
 use mathlib.Core.Logic.{_⊎_, inl, inr}
-use mathlib.Core.Option.{Option, some}
+use mathlib.Core.Option.{Option, some, Option·map}
 use mathlib.Core.Path.{_≡_, refl, sym, ap, subst, _∙_}
 use Prim.Native.Nat.{ℕ, suc}
 use lib.Dec.{T, T-not, not-T}
@@ -15,7 +15,7 @@ use Rattle.tables.specs.Colours.{colourable, edgeColourable}
 use Rattle.tables.proofs.Words.{passes, fails, and-left, and-right, and-both}
 use Rattle.closure.specs.Graph.{basic, derived, Graph, joined}
 use Rattle.closure.specs.Steps.{State, tableOf, vertex, congruent, withEdge, withMiddle, colourableOnly, Step, basic-step, derived-step, middle-step, Run, next, NoStepLeft}
-use Rattle.closure.specs.OwnRun.{basicSteps, middleBy, middleFrom, derivedStep}
+use Rattle.closure.specs.OwnRun.{basicSteps, middleFrom, derivedStep}
 use Rattle.closure.proofs.Walking.Joined.{joined-sym, joined-more, joined-ends}
 use Rattle.closure.proofs.Running.Congruent.{congruent-sym}
 use Rattle.closure.proofs.Running.Vertices.{vertex-within}
@@ -140,10 +140,10 @@ module _ (ts : List Term) (ls : List Literal) (st : State) (r : SoundState ts ls
 
   -- the middle step that the library takes between an A-colourable and a B-colourable end is there, and is one
   own-middle : (s t : ℕ) → T (vertex ts ls st s) → T (vertex ts ls st t) → T (not (joined (st .graph) s t)) → T (congruent (tableOf ts st) (st .graph) s t) → T (colourable ts ls A (tableOf ts st) s) → T (not (colourable ts ls B (tableOf ts st) s)) → T (colourable ts ls B (tableOf ts st) t) → T (not (colourable ts ls A (tableOf ts st) t)) → (after : State) × (middleFrom ts ls st s t ≡ some after) × Step ts ls st after
-  unfolding middleFrom middleBy
+  unfolding middleFrom
   own-middle s t vs vt n c sa sb tb ta =
       let m = middle-found ts ls (tableOf ts st) (r .lower) (st .graph) (r .edges) s t (vertex-within ts ls st s vs) (vertex-within ts ls st t vt) c sa tb in
-      (withMiddle ts ls st s t (m .0), ap (middleBy ts ls st s t) (m .1), middle-step s t (m .0) vs vt n c (only-made ts ls A B (tableOf ts st) s sa sb) (only-made ts ls B A (tableOf ts st) t tb ta) (m .2))
+      (withMiddle ts ls st s t (m .0), ap (Option·map (withMiddle ts ls st s t)) (m .1), middle-step s t (m .0) vs vt n c (only-made ts ls A B (tableOf ts st) s sa sb) (only-made ts ls B A (tableOf ts st) t tb ta) (m .2))
 
   -- the derived step that the library takes between unjoined congruent vertices is there, and is a step
   pub own-step : (s t : ℕ) → T (vertex ts ls st s) → T (vertex ts ls st t) → T (not (joined (st .graph) s t)) → T (congruent (tableOf ts st) (st .graph) s t) → (after : State) × (derivedStep ts ls st (pair s t) ≡ some after) × Step ts ls st after

@@ -61,7 +61,7 @@ module _ (ts : List Term) (ls : List Literal) (table : List Term) where
 
   -- the first shared terms of the parent paths are chosen terms
   pub first-chosen : (G : Graph) (xs ys : List ℕ) → T (joinedPairwise G xs ys) → (ms : List ℕ) → firstShared ts ls table G xs ys ≡ some ms → Chosen ts ls table G xs ys ms
-  unfolding firstShared joinedPairwise
+  unfolding firstShared joinedPairwise andThen
   first-chosen G [] [] j ms e = subst (Chosen ts ls table G [] []) (cc) chosen-none
   first-chosen G [] (y ∷ ys) j ms e = absurd j
   first-chosen G (x ∷ xs) [] j ms e = absurd j
@@ -77,7 +77,7 @@ module _ (ts : List Term) (ls : List Literal) (table : List Term) where
 
   -- each parent path has one, where the arguments have these colours
   pub first-shared-found : (G : Graph) → SoundGraph ts ls table G → (xs ys : List ℕ) → T (joinedPairwise G xs ys) → ((a : ℕ) → List·Memᴰ a xs → T (colourable ts ls A table a)) → ((b : ℕ) → List·Memᴰ b ys → T (colourable ts ls B table b)) → firstShared ts ls table G xs ys ≡ none → ⊥
-  unfolding firstShared joinedPairwise
+  unfolding firstShared joinedPairwise andThen
   first-shared-found G each [] [] j ka kb e = Option·none-ne-some [] (sym e)
   first-shared-found G each [] (y ∷ ys) j ka kb e = j
   first-shared-found G each (x ∷ xs) [] j ka kb e = j
