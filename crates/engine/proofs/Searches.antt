@@ -1,20 +1,20 @@
 -- The searches of the verdict, by the arrays: what the code tests of a record or a term is what the definitions test.
 use mathlib.Core.Bool.{Bool, true, false, cond, not, _&&_}
 use mathlib.Core.List.{List, flatMap}
-use mathlib.Core.Option.{Option, some, none, Option·getD}
-use mathlib.Core.Path.{_≡_, refl, sym, ap, ap₂, _∙_}
-use Prim.Native.Nat.{ℕ, zero, suc, _<_}
+use mathlib.Core.Option.{Option, Option·getD}
+use mathlib.Core.Path.{_≡_, sym, ap, ap₂, _∙_}
+use Prim.Native.Nat.{ℕ, _<_}
 use native.Mathlib.Omega.{arith}
 use lib.Dec.{eqb}
 use lib.ListN.{length, getD}
-use Rattle.tables.specs.Words.{below, orElse, firstBelow}
+use Rattle.tables.specs.Words.{below, firstBelow}
 use Rattle.tables.specs.Bytes.{wordBytes}
 use Rattle.tables.specs.TermTable.{termCount}
 use Rattle.tables.specs.LiteralTable.{literalCount, literalRecord}
 use Rattle.tables.specs.Colours.{inUse}
 use Rattle.tables.specs.Read.{soundTables}
 use Rattle.tables.specs.declared.Tables.{Tables}
-use Rattle.tables.proofs.Words.{below-mem}
+use Rattle.tables.proofs.Words.{below-mem, firstBelow-agree}
 use Rattle.tables.proofs.Filled.{filled-at}
 use Rattle.tables.proofs.Sound.{length-termsOf}
 use Rattle.reading.specs.Fields.{fieldsOf}
@@ -29,12 +29,6 @@ use Rattle.demands.proofs.Critical.{contradicted-by, critical-by}
 use Rattle.demands.specs.Buffers.{classNumber, partitionBytes}
 use Rattle.engine.proofs.Writing.{flatMap-agree}
 use Rattle.engine.specs.Ending.{Ends, termsIn, literalsIn, metBy, classBy}
-
--- two tests that agree below n have one first number there
-pub firstBelow-agree : (p q : ℕ → Bool) (n : ℕ) → ((k : ℕ) → k < n → p k ≡ q k) → firstBelow p n ≡ firstBelow q n
-unfolding firstBelow
-firstBelow-agree p q zero f = refl
-firstBelow-agree p q (suc n) f = ap₂ (λ (o : Option ℕ) (b : Bool). orElse o (cond b (some n) none)) (firstBelow-agree p q n (λ k h. f k (omega arith))) (f n (omega arith))
 
 module _ (t : Tables) (s : Arrays) (w : Ends t s) where
   -- the label of a term is in its place
