@@ -329,14 +329,6 @@ no-first p P f n none-is k h q = go (firstBelow p n) refl
     go (some j) e = none-is j (first-is p P f n j .0 e)
     go none e = firstBelow-none p n e k h (f k .1 q)
 
--- tests that agree below n have the same first number there
-pub firstBelow-agree : (p q : ℕ → Bool) (n : ℕ) → ((k : ℕ) → k < n → p k ≡ q k) → firstBelow p n ≡ firstBelow q n
-firstBelow-agree p q n f = go (firstBelow q n) refl
-  where
-    go : (o : Option ℕ) → firstBelow q n ≡ o → firstBelow p n ≡ firstBelow q n
-    go (some k) e = let r = firstBelow-some q n k e in first-firstBelow p n k record { within = r .within; passes = subst T (sym (f k (r .within))) (r .passes); none-before = λ j h t. r .none-before j h (subst T (f j (omega (arith, r .within))) t) } ∙ sym e
-    go none e = none-firstBelow p n (λ k h t. firstBelow-none q n e k h (subst T (f k h) t)) ∙ sym e
-
 -- ---- pairs
 
 pub samePair-eq : (p q : Pair) → T (samePair p q) → p ≡ q
