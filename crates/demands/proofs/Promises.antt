@@ -39,6 +39,7 @@ use Rattle.clauses.specs.Truth.{Summarises}
 use Rattle.clauses.proofs.Interpolation.{summary-shared, summary-A, summary-B}
 use Rattle.clauses.proofs.Order.{OneEach, standing-true, shared-standing}
 use Rattle.clauses.proofs.OneClause.{summary-one-each, written-summarises}
+use Rattle.demands.specs.declared.Answer.{Answer}
 use Rattle.demands.specs.declared.Answer.the-variants.{Consistent, Inconsistent, Refused}
 use Rattle.demands.specs.declared.Numbers.{Numbers}
 use Rattle.demands.specs.Answers.{numbersOf}
@@ -152,6 +153,18 @@ inconsistent-refused e = let z : _≡_ {A = ℕ} 1 2 = ap (λ (x : Numbers). x .
 
 consistent-inconsistent : {d a k : ℕ} → numbersOf Consistent ≡ numbersOf (Inconsistent d a k) → ⊥
 consistent-inconsistent e = let z : _≡_ {A = ℕ} 0 1 = ap (λ (x : Numbers). x .verdict) e in omega arith
+
+-- So the numbers tell the answer: a contract that settles them settles it.
+pub one-answer : (x y : Answer) → numbersOf x ≡ numbersOf y → x ≡ y
+one-answer Consistent Consistent e = refl
+one-answer Consistent (Inconsistent d a k) e = absurd (consistent-inconsistent e)
+one-answer Consistent (Refused n p) e = absurd (consistent-refused e)
+one-answer (Inconsistent d a k) Consistent e = absurd (consistent-inconsistent (sym e))
+one-answer (Inconsistent d a k) (Inconsistent d′ a′ k′) e = λ i. Inconsistent (e i .disequality) (e i .added) (e i .records)
+one-answer (Inconsistent d a k) (Refused n p) e = absurd (inconsistent-refused e)
+one-answer (Refused n p) Consistent e = absurd (consistent-refused (sym e))
+one-answer (Refused n p) (Inconsistent d a k) e = absurd (inconsistent-refused (sym e))
+one-answer (Refused n p) (Refused m q) e = λ i. Refused (e i .number) (e i .place)
 
 -- an answer is no refusal
 answered-refused : (ts : List Term) (ls : List Literal) (bs : Buffers) (st : State) (o : Option ℕ) {n p : ℕ} → answered ts ls bs st o .numbers ≡ numbersOf (Refused n p) → ⊥
