@@ -1,8 +1,7 @@
 -- `engine::anahruyk_split` meets its contract: the numbers of the answer that `split` gives, and the bytes that it leaves.
 use mathlib.Core.Path.{ap, _∙_}
 use borrow.Author.Needs.{needs}
-use Rattle.demands.specs.Answers.{numbersOf}
-use Rattle.demands.specs.Buffers.{Returned}
+use Rattle.demands.specs.declared.Numbers.{Numbers}
 use Rattle.engine.proofs.anahruyk_split.Statement.{statement}
 use Rattle.engine.proofs.anahruyk_split.Tie as tie
 
@@ -24,7 +23,11 @@ same-length-3 c = search needs
 returns : tie.Need-returns
 returns c =
     let s = c .before .before .before .before .before .before .before .split in
-    (c .told .ensures ∙ ap (λ (z : Returned). numbersOf (z .answer)) (s .ensures), ap (λ (z : Returned). z .buffers) (s .ensures))
+    record {
+      returned = ap (λ (n : Numbers). record { numbers = n; buffers = _ }) (c .told .ensures) ∙ s .ensures .returned;
+      term-bytes = s .ensures .term-bytes;
+      literal-bytes = s .ensures .literal-bytes;
+    }
 
 pub anahruyk-split-spec : {M : Type 1} → statement M
 anahruyk-split-spec =
