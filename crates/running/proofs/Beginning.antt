@@ -18,7 +18,7 @@ use Rattle.tables.specs.Read.{filled, colourNumber, argumentRows, soundTables, 
 use Rattle.tables.specs.declared.Check.{Check}
 use Rattle.tables.specs.declared.Check.the-variants.{Sound}
 use Rattle.tables.specs.declared.Tables.{Tables}
-use Rattle.tables.proofs.Faults.{unused-not-zero}
+use Rattle.tables.specs.Rows.{unused-not-zero}
 use Rattle.tables.proofs.Words.{by-test, passes, below-or-not}
 use Rattle.tables.proofs.Records.{Filling, filling-all}
 use Rattle.tables.proofs.Filled.{filled-at, filled-agree}
