@@ -1,5 +1,6 @@
 -- Theorems about the definitions of specs/.
 pub mod Computing
+pub mod Choices
 pub mod Walking
 pub mod Running
 pub mod Entailing

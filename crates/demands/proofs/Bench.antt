@@ -192,7 +192,12 @@ pub benchCases : List Case
 unfolding p1 p2 p3 p4 p5 p6 p7 p8 p9 p10 p11
 benchCases = p1 ∷ p2 ∷ p3 ∷ p4 ∷ p5 ∷ p6 ∷ p7 ∷ p8 ∷ p9 ∷ p10 ∷ p11 ∷ []
 
+-- what comes back for a case: a theorem that opens this name computes it
+unfoldable pub returnedFor : Case → Returned
+unfolding computing bytes lent
+returnedFor c = judged (bytes (c .terms)) (bytes (c .literals)) lent
+
 -- each of the eleven cases comes back as 01 prints it
-pub bench : map (λ c. judged (bytes (c .terms)) (bytes (c .literals)) lent) benchCases ≡ map (λ c. c .returned) benchCases
-unfolding computing benchCases bytes lent consistently inconsistentBy
+pub bench : map returnedFor benchCases ≡ map (λ c. c .returned) benchCases
+unfolding benchCases returnedFor consistently inconsistentBy
 bench = refl
