@@ -1,5 +1,6 @@
 -- Theorems about the definitions of specs/.
 pub mod Computing
+pub mod Applied
 pub mod Factors
 pub mod Members
 pub mod Truths

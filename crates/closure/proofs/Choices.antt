@@ -1,29 +1,13 @@
 -- 01, "The library's own run": its three choices, each on small tables that show it. Another choice is allowed in demand 3 and summarises A as well,
 -- so no law of all runs refuses it: here the run's last state would be another one. demands/proofs/Choices has the same tables as bytes.
-use mathlib.Core.List.{List, [], _∷_}
+use mathlib.Core.List.{[], _∷_}
 use mathlib.Core.Option.{some}
 use mathlib.Core.Path.{_≡_, refl}
-use Prim.Native.Nat.{ℕ}
-use Rattle.tables.specs.Terms.{Term}
-use Rattle.tables.specs.LiteralTable.{Literal, equal, different}
-use Rattle.tables.specs.declared.Side.{Side}
 use Rattle.tables.specs.declared.Side.the-variants.{A, B}
-use Rattle.closure.specs.Graph.{Edge, EdgeKind, basic, derived}
+use Rattle.closure.specs.Graph.{basic, derived}
 use Rattle.closure.specs.OwnRun.{ownRun}
 use Rattle.closure.proofs.Computing.{computing}
-
--- a term, an equality, a disequality and an edge by their parts
-abbrev over : ℕ → List ℕ → Term
-over symbol arguments = record { symbol = symbol; arguments = arguments }
-
-abbrev equality : Side → ℕ → ℕ → Literal
-equality X s t = record { side = X; kind = equal; left = s; right = t }
-
-abbrev disequality : Side → ℕ → ℕ → Literal
-disequality X s t = record { side = X; kind = different; left = s; right = t }
-
-abbrev edge : EdgeKind → Side → ℕ → ℕ → Edge
-edge kind X s t = record { left = s; right = t; colour = X; kind = kind }
+use Rattle.closure.proofs.Applied.{over, equality, disequality, edge}
 
 -- "A derived edge is B where both ends are B-colourable, else A": f(k) and f(f(k)) are shared, and their edge is B.
 -- Terms k, f(k), f(f(k)). A k=f(k), B f(k) different f(f(k)).

@@ -1,5 +1,6 @@
 -- Theorems about the definitions of specs/.
 pub mod Computing
+pub mod Applied
 pub mod Choices
 pub mod Walking
 pub mod Running

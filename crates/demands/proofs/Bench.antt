@@ -16,10 +16,10 @@ pub record Case : Type 0 where
   pub returned : Returned
 
 -- the numbers of the two verdicts: "The consistent answer's three numbers are 0", and an inconsistent one carries its disequality and two counts
-pub consistently : Numbers
+abbrev pub consistently : Numbers
 consistently = record { verdict = 0; number = 0; place = 0; disequality = 0; added = 0; records = 0 }
 
-pub inconsistentBy : ℕ → ℕ → ℕ → Numbers
+abbrev pub inconsistentBy : ℕ → ℕ → ℕ → Numbers
 inconsistentBy d a r = record { verdict = 1; number = 0; place = 0; disequality = d; added = a; records = r }
 
 pub bytes : List (List ℕ) → List ℕ
@@ -199,5 +199,5 @@ returnedFor c = judged (bytes (c .terms)) (bytes (c .literals)) lent
 
 -- each of the eleven cases comes back as 01 prints it
 pub bench : map returnedFor benchCases ≡ map (λ c. c .returned) benchCases
-unfolding benchCases returnedFor consistently inconsistentBy
+unfolding benchCases returnedFor
 bench = refl

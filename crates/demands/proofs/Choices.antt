@@ -86,5 +86,5 @@ choiceCases = colourB ∷ firstPair ∷ firstMet ∷ []
 
 -- each of the three cases comes back by 01's choice
 pub choices : map returnedFor choiceCases ≡ map (λ c. c .returned) choiceCases
-unfolding choiceCases returnedFor inconsistentBy
+unfolding choiceCases returnedFor
 choices = refl
