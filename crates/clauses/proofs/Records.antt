@@ -5,8 +5,9 @@ use mathlib.Core.Path.{_≡_, refl, sym, ap, subst, _∙_}
 use Prim.Native.Nat.{ℕ, _*_, _≤_, _<_}
 use native.Mathlib.Omega.{arith}
 use lib.ListN.{length}
+use borrow.Author.Tests.{eq-eqb, ne-eqb}
 use Rattle.tables.specs.Words.{below, Pair, pair}
-use Rattle.tables.specs.Bytes.{byteAt, wordAt, wordBytes}
+use Rattle.tables.specs.Bytes.{byteAt, wordAt, wordBytes, recordAt}
 use Rattle.tables.specs.Terms.{Term}
 use Rattle.tables.specs.LiteralTable.{Literal}
 use Rattle.tables.specs.Interpretations.{Interpretation}
@@ -166,3 +167,43 @@ bytes-shared n cs rest h lasts ts ls table s c m = shared-standing n cs ts ls ta
 pub late-read : clausesRead 2 (1 ∷ 0 ∷ 0 ∷ 0 ∷ 1 ∷ 0 ∷ 0 ∷ 0 ∷ 2 ∷ 0 ∷ 2 ∷ 0 ∷ 3 ∷ 0 ∷ 0 ∷ 0 ∷ []) ≡ record { premises = pair 0 1 ∷ []; conclusion = equals (pair 2 3) } ∷ []
 unfolding clausesRead below clausesAfter pairRead conclusionRead
 late-read = refl
+
+-- ---- any records, read one by one
+
+-- the two words of a record are its pair
+pub pair-words : (r : List ℕ) → pairRead r ≡ pair (wordAt r 2) (wordAt r 4)
+unfolding pairRead
+pair-words r = refl
+
+-- kind 2 concludes an equality, kind 3 a disequality, and any other false
+pub equal-read : (r : List ℕ) → byteAt r 0 ≡ 2 → conclusionRead r ≡ equals (pairRead r)
+unfolding conclusionRead
+equal-read r e = simp (eq-eqb (byteAt r 0) 2 e)
+
+pub different-read : (r : List ℕ) → byteAt r 0 ≡ 3 → conclusionRead r ≡ differs (pairRead r)
+unfolding conclusionRead
+different-read r e = simp (ne-eqb (byteAt r 0) 2 (λ two. omega arith), eq-eqb (byteAt r 0) 3 e)
+
+pub false-read : (r : List ℕ) → (byteAt r 0 ≡ 2 → ⊥) → (byteAt r 0 ≡ 3 → ⊥) → conclusionRead r ≡ falsum
+unfolding conclusionRead
+false-read r two three = simp (ne-eqb (byteAt r 0) 2 two, ne-eqb (byteAt r 0) 3 three)
+
+-- behind the last record there is no clause
+pub after-last : (ps : List Pair) → clausesAfter ps [] ≡ []
+unfolding clausesAfter
+after-last ps = refl
+
+-- a premise adds to the open clause
+pub after-premise : (ps : List Pair) (r : List ℕ) (rs : List (List ℕ)) → byteAt r 0 ≡ 1 → clausesAfter ps (r ∷ rs) ≡ clausesAfter (ps ++ (pairRead r ∷ [])) rs
+unfolding clausesAfter
+after-premise ps r rs e = simp (eq-eqb (byteAt r 0) 1 e)
+
+-- any other record ends it
+pub after-conclusion : (ps : List Pair) (r : List ℕ) (rs : List (List ℕ)) → (byteAt r 0 ≡ 1 → ⊥) → clausesAfter ps (r ∷ rs) ≡ record { premises = ps; conclusion = conclusionRead r } ∷ clausesAfter [] rs
+unfolding clausesAfter
+after-conclusion ps r rs e = simp (ne-eqb (byteAt r 0) 1 e)
+
+-- the clauses of the first records of a byte string are read from its start
+pub clauses-first : (count : ℕ) (bytes : List ℕ) → clausesRead count bytes ≡ clausesAfter [] (map (recordAt 8 bytes) (below count))
+unfolding clausesRead
+clauses-first count bytes = refl

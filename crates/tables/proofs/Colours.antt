@@ -1,17 +1,18 @@
 -- Laws of terms in use and of colours.
-use mathlib.Core.Bool.{_&&_}
+use mathlib.Core.Bool.{Bool, true, false, cond, _&&_}
 use mathlib.Core.List.{List, _++_, List·Memᴰ, List·Memᴰ·append-cases, Memᴰ·append-left, Memᴰ·append-right}
 use mathlib.Core.Logic.{_⊎_, inl, inr, ⊎-elim}
-use mathlib.Core.Path.{_≡_, refl, sym, ap, subst}
-use Prim.Native.Nat.{ℕ, _<_}
+use mathlib.Core.Path.{_≡_, refl, sym, ap, ap₂, subst}
+use Prim.Native.Nat.{ℕ, _+_, _%_, _<_}
 use native.Mathlib.Omega.{arith}
-use lib.Dec.{T}
+use lib.Dec.{T, eqb, leb, eqb→eq}
 use lib.ListN.{length}
 use Rattle.tables.specs.Words.{every, among}
 use Rattle.tables.specs.Terms.{Term, termAt, parts, symbols}
 use Rattle.tables.specs.Parts.{Part, itself, deeper, LowerArguments}
 use Rattle.tables.specs.LiteralTable.{Side, A, B, sameSide, Literal}
-use Rattle.tables.specs.Colours.{inUse, occursIn, colourable}
+use Rattle.tables.specs.Colours.{inUse, occursIn, colourable, shared, edgeColourable}
+use Rattle.tables.specs.Read.{colourNumber}
 use Rattle.tables.proofs.Words.{and-left, and-right, and-both, any-some, some-any, every-all, all-every, among-mem, mem-among}
 use Rattle.tables.proofs.Terms.{mem-part, part-mem, part-le, part-trans, symbol-of-part, part-symbol, symbols-append}
 
@@ -136,3 +137,52 @@ module _ (ts : List Term) (ls : List Literal) (X : Side) (table : List Term) whe
   pub colourable-append : (more : List Term) → LowerArguments table → (t : ℕ) → t < length table → colourable ts ls X (table ++ more) t ≡ colourable ts ls X table t
   unfolding colourable
   colourable-append more low t h = ap (every (occursIn ts ls X)) (symbols-append table more low t h)
+
+-- an edge is colourable where both its ends are
+pub edgeColourable-ends : (ts : List Term) (ls : List Literal) (X : Side) (table : List Term) (s t : ℕ) → edgeColourable ts ls X table s t ≡ colourable ts ls X table s && colourable ts ls X table t
+unfolding edgeColourable
+edgeColourable-ends ts ls X table s t = refl
+
+-- ---- a term's colours as one number
+
+-- the colours as one number: it is odd where a term is A-colourable
+pub odd-test : (ts : List Term) (ls : List Literal) (table : List Term) (v : ℕ) → eqb (colourNumber ts ls table v % 2) 1 ≡ colourable ts ls A table v
+unfolding colourNumber
+odd-test ts ls table v = go (colourable ts ls A table v) (colourable ts ls B table v)
+  where
+    go : (a b : Bool) → eqb ((cond a 1 0 + cond b 2 0) % 2) 1 ≡ a
+    go true true = refl
+    go true false = refl
+    go false true = refl
+    go false false = refl
+
+-- and 2 or more where it is B-colourable
+pub two-test : (ts : List Term) (ls : List Literal) (table : List Term) (v : ℕ) → leb 2 (colourNumber ts ls table v) ≡ colourable ts ls B table v
+unfolding colourNumber
+two-test ts ls table v = go (colourable ts ls A table v) (colourable ts ls B table v)
+  where
+    go : (a b : Bool) → leb 2 (cond a 1 0 + cond b 2 0) ≡ b
+    go true true = refl
+    go true false = refl
+    go false true = refl
+    go false false = refl
+
+-- and 3 where it is shared
+pub shared-test : (ts : List Term) (ls : List Literal) (table : List Term) (v : ℕ) → eqb (colourNumber ts ls table v) 3 ≡ shared ts ls table v
+unfolding colourNumber shared
+shared-test ts ls table v = go (colourable ts ls A table v) (colourable ts ls B table v)
+  where
+    go : (a b : Bool) → eqb (cond a 1 0 + cond b 2 0) 3 ≡ a && b
+    go true true = refl
+    go true false = refl
+    go false true = refl
+    go false false = refl
+
+pub shared-number : (ts : List Term) (ls : List Literal) (table : List Term) (v : ℕ) → T (shared ts ls table v) → colourNumber ts ls table v ≡ 3
+shared-number ts ls table v h = eqb→eq (colourNumber ts ls table v) 3 (subst T (sym (shared-test ts ls table v)) h)
+
+-- terms behind the table change no colour
+pub number-append : (ts : List Term) (ls : List Literal) (table more : List Term) → LowerArguments table → (v : ℕ) → v < length table → colourNumber ts ls (table ++ more) v ≡ colourNumber ts ls table v
+unfolding colourNumber
+number-append ts ls table more lower v h =
+    ap₂ (λ (a b : Bool). cond a 1 0 + cond b 2 0) (colourable-append ts ls A table more lower v h) (colourable-append ts ls B table more lower v h)

@@ -1,16 +1,17 @@
 -- Laws of filled arrays: how long they are, and what stands at a place.
-use mathlib.Core.List.{List, [], _∷_, _++_, map, map-append}
+use mathlib.Core.List.{List, [], _∷_, _++_, map, map-append, append-nil}
 use mathlib.Core.Logic.{⊎-elim}
 use mathlib.Core.Path.{_≡_, sym, ap, ap₂, subst, _∙_}
 use Prim.Native.Nat.{ℕ, zero, suc, _+_, _-_, _≤_, _<_, min}
 use native.Mathlib.Nat.{not-suc-le-zero}
 use native.Mathlib.Omega.{arith}
-use lib.ListN.{length, getD, replicate, length-append, length-map, length-replicate, getD-replicate, List·getD-append, List·getD-eq-default}
+use lib.ListN.{length, getD, set, replicate, length-append, length-map, length-replicate, getD-replicate, List·getD-append, List·getD-eq-default}
 use lib.Seq.{getD-at, getD-append-add}
 use Rattle.tables.specs.Words.{below}
 use Rattle.tables.specs.Read.{filled}
 use Rattle.tables.proofs.Words.{length-below, below-mem, below-or-is, below-or-not}
 use Rattle.tables.proofs.Terms.{map-agree}
+use Rattle.tables.proofs.Records.{written-more}
 
 module _ {ℓ} {X : Type ℓ} (f : ℕ → X) where
   -- an entry for each number
@@ -63,3 +64,21 @@ pub filled-agree {ℓ} : {X : Type ℓ} (size : ℕ) (filler : X) (n : ℕ) (f g
 unfolding filled
 filled-agree {X = X} size filler n f g h =
     ap (λ (l : List X). l ++ replicate (size - n) filler) (map-agree f g (below (min n size)) (λ k m. h k (omega (arith, below-mem (min n size) m))))
+
+-- an array that is filled to its end
+pub filled-full {ℓ} : {X : Type ℓ} (size : ℕ) (filler : X) (f : ℕ → X) → filled size filler size f ≡ map f (below size)
+unfolding filled
+filled-full {X = X} size filler f =
+    let whole : min size size ≡ size = omega arith in
+    let nothing : size - size ≡ 0 = omega arith in
+    ap₂ (λ (n k : ℕ). map f (below n) ++ replicate k filler) whole nothing ∙ append-nil (map f (below size))
+
+-- a filled array with one place more
+pub filled-next {ℓ} : {X : Type ℓ} (size : ℕ) (filler : X) (n : ℕ) (f g : ℕ → X) (x : X) → n < size → ((k : ℕ) → k < n → f k ≡ g k) → x ≡ g n → set (filled size filler n f) n x ≡ filled size filler (n + 1) g
+unfolding filled
+filled-next {X = X} size filler n f g x h same e =
+    let fits : min n size ≡ n = omega arith in
+    let fits-more : n + 1 ≡ min (n + 1) size = omega arith in
+    ap₂ (λ (xs : List X) (y : X). set xs n y) (filled-agree size filler n f g same ∙ ap (λ (k : ℕ). map g (below k) ++ replicate (size - n) filler) fits) e ∙
+    written-more size filler g n h ∙
+    ap (λ (k : ℕ). map g (below k) ++ replicate (size - (n + 1)) filler) fits-more

@@ -1,8 +1,8 @@
 -- What the checks of rows 1 to 6 settle: where none refuses, the tables have the form that the layers above rest on.
 use mathlib.Core.List.{List, [], _∷_, List·Memᴰ, Memᴰ·of-map}
-use mathlib.Core.Bool.{false}
+use mathlib.Core.Bool.{Bool, true, false, cond}
 use mathlib.Core.Logic.{_⊎_, inl, inr, ⊎-elim}
-use mathlib.Core.Path.{_≡_, refl, sym, subst, _∙_}
+use mathlib.Core.Path.{_≡_, refl, sym, ap, subst, _∙_}
 use Prim.Native.Nat.{ℕ, _%_, _≤_, _<_}
 use native.Mathlib.Omega.{arith}
 use lib.Dec.{eqb, eqb→eq}
@@ -17,6 +17,7 @@ use Rattle.tables.specs.Tests.{breaksLayout, hadOtherArity, equalsEarlie
 use Rattle.tables.specs.LiteralTable.{Literal, literalCount, literalRecord, literalOf, literalsOf}
 use Rattle.tables.specs.Rows.{Row, Refuses, LayoutFault, arity-over-four, argument-not-lower, HadOtherArity, EqualsEarlier, LiteralFault, side-not-one-or-two, kind-not-one-or-two, left-not-in-table, right-not-in-table, tableRows}
 use Rattle.tables.specs.Checks.{checked, numberOf}
+use Rattle.tables.specs.Read.{soundTables, refusedTables, tablesRead}
 use Rattle.tables.specs.declared.Check.{Check}
 use Rattle.tables.specs.declared.Check.the-variants.{Sound, Length, Count, Layout, Arity, Repeated, Literal as Broken}
 use Rattle.tables.proofs.Words.{decide, below-or-not, below-mem, mem-getD, no-first}
@@ -168,3 +169,29 @@ module _ (bs ls : List ℕ) (s : SoundTables bs ls) where
       let q = sound-literal (p .0) (below-mem (literalCount ls) (p .1)) in
       let within : (t : ℕ) → t < termCount bs → t < length (termsOf bs) = λ t. subst (λ (n : ℕ). t < n) (sym (length-termsOf bs)) in
       subst (λ (x : Literal). (x .left < length (termsOf bs)) × (x .right < length (termsOf bs))) (p .2) (within (wordAt (literalRecord ls (p .0)) 2) (q .left), within (wordAt (literalRecord ls (p .0)) 4) (q .right))
+
+-- there are as many literals as records
+pub length-literalsOf : (ls : List ℕ) → length (literalsOf ls) ≡ literalCount ls
+unfolding literalsOf
+length-literalsOf ls = length-map-below (λ k. literalOf (literalRecord ls k)) (literalCount ls)
+
+-- a literal is what its record describes
+pub literal-at : (ls : List ℕ) (k : ℕ) (d : Literal) → k < literalCount ls → getD (literalsOf ls) k d ≡ literalOf (literalRecord ls k)
+unfolding literalsOf
+literal-at ls k d h = map-below-at (λ j. literalOf (literalRecord ls j)) (literalCount ls) k d h
+
+-- ---- the tables as arrays
+
+-- tables that no row refuses are read as such
+pub sound-read : (bs ls : List ℕ) → checked bs ls ≡ Sound → tablesRead bs ls ≡ soundTables Sound bs ls
+unfolding tablesRead numberOf
+sound-read bs ls e = ap (λ (c : Check). cond (eqb (numberOf c) 0) (soundTables c bs ls) (refusedTables c)) e
+
+-- the tables that are read say what the checks say
+pub read-check : (bs ls : List ℕ) → tablesRead bs ls .check ≡ checked bs ls
+unfolding tablesRead soundTables refusedTables
+read-check bs ls = go (eqb (numberOf (checked bs ls)) 0)
+  where
+    go : (b : Bool) → cond b (soundTables (checked bs ls) bs ls) (refusedTables (checked bs ls)) .check ≡ checked bs ls
+    go true = refl
+    go false = refl

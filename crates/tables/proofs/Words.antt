@@ -1,6 +1,6 @@
 -- Laws of the words of specs/Words.antt: each test says what it tests. Every layer cites them.
 use mathlib.Core.Bool.{Bool, true, false, cond, not, _&&_, _||_}
-use mathlib.Core.List.{List, [], _∷_, _++_, map, flatMap, List·Memᴰ, List·Memᴰ·head, List·Memᴰ·tail, List·Memᴰ·not-nil, List·Memᴰ·cases-cons, List·Memᴰ·append-cases, List·Memᴰ·eq-of-singleton, Memᴰ·append-left, Memᴰ·append-right, Memᴰ·map, Memᴰ·of-map}
+use mathlib.Core.List.{List, [], _∷_, _++_, map, flatMap, append-assoc, append-nil, List·Memᴰ, List·Memᴰ·head, List·Memᴰ·tail, List·Memᴰ·not-nil, List·Memᴰ·cases-cons, List·Memᴰ·append-cases, List·Memᴰ·eq-of-singleton, Memᴰ·append-left, Memᴰ·append-right, Memᴰ·map, Memᴰ·of-map}
 use mathlib.Core.Logic.{_↔_, _⊎_, inl, inr, ⊎-elim}
 use mathlib.Core.Option.{Option, some, none, Option·none-ne-some}
 use mathlib.Core.Path.{_≡_, refl, sym, ap, ap₂, subst, _∙_}
@@ -8,7 +8,7 @@ use Prim.Native.Nat.{ℕ, zero, suc, _+_, _≤_, _<_}
 use native.Mathlib.Nat.{le-refl, not-suc-le-zero}
 use native.Mathlib.Numerals.{add-one}
 use native.Mathlib.Omega.{arith}
-use lib.Dec.{T, eqb, ltb, eqb→eq, eqb-refl, ltb→lt, lt→ltb}
+use lib.Dec.{T, eqb, ltb, eqb→eq, eqb-refl, ltb→lt, lt→ltb, not-T}
 use lib.ListN.{length, getD, length-append}
 use Rattle.tables.specs.Words.{below, any, every, keep, among, same, firstBelow, First, firstOf, Pair, pair, samePair, pairsBelow}
 use Rattle.tables.specs.Tests.{someBelow}
@@ -360,3 +360,121 @@ pub every-map {ℓ κ} : {A : Type ℓ} {B : Type κ} (p : A → Bool) (q : B �
 unfolding every
 every-map p q f [] h = refl
 every-map p q f (x ∷ xs) h = ap₂ (λ (a b : Bool). a && b) (h x (List·Memᴰ·head refl)) (every-map p q f xs (λ y m. h y (List·Memᴰ·tail m)))
+
+-- ---- words on a list, member by member
+
+module _ {ℓ} {A : Type ℓ} (p : A → Bool) where
+  -- no member of an empty list passes
+  pub any-empty : any p [] ≡ false
+  unfolding any
+  any-empty = refl
+
+  -- a member that fails is as if it were not there
+  pub any-fails : (x : A) (xs : List A) → p x ≡ false → any p (x ∷ xs) ≡ any p xs
+  unfolding any
+  any-fails x xs e = ap (λ (b : Bool). b || any p xs) e
+
+  pub keep-empty : keep p [] ≡ []
+  unfolding keep
+  keep-empty = refl
+
+  pub keep-passes : (x : A) (xs : List A) → p x ≡ true → keep p (x ∷ xs) ≡ x ∷ keep p xs
+  unfolding keep
+  keep-passes x xs e = ap (λ (b : Bool). cond b (x ∷ keep p xs) (keep p xs)) e
+
+  pub keep-fails : (x : A) (xs : List A) → p x ≡ false → keep p (x ∷ xs) ≡ keep p xs
+  unfolding keep
+  keep-fails x xs e = ap (λ (b : Bool). cond b (x ∷ keep p xs) (keep p xs)) e
+
+  -- what is kept of two lists, one after the other
+  pub keep-append : (xs ys : List A) → keep p (xs ++ ys) ≡ keep p xs ++ keep p ys
+  keep-append [] ys = ap (λ (l : List A). l ++ keep p ys) (sym keep-empty)
+  keep-append (x ∷ xs) ys =
+      by-test (p x)
+      (λ e. keep-passes x (xs ++ ys) e ∙ ap (λ (l : List A). x ∷ l) (keep-append xs ys) ∙ ap (λ (l : List A). l ++ keep p ys) (sym (keep-passes x xs e)))
+      (λ e. keep-fails x (xs ++ ys) e ∙ keep-append xs ys ∙ ap (λ (l : List A). l ++ keep p ys) (sym (keep-fails x xs e)))
+
+  -- where none passes none is kept
+  pub keep-none : (xs : List A) → ((x : A) → List·Memᴰ x xs → p x ≡ false) → keep p xs ≡ []
+  keep-none [] h = keep-empty
+  keep-none (x ∷ xs) h = keep-fails x xs (h x (List·Memᴰ·head refl)) ∙ keep-none xs (λ y m. h y (List·Memᴰ·tail m))
+
+  pub firstOf-empty : firstOf p [] ≡ none
+  unfolding firstOf
+  firstOf-empty = refl
+
+  pub firstOf-passes : (x : A) (xs : List A) → p x ≡ true → firstOf p (x ∷ xs) ≡ some x
+  unfolding firstOf
+  firstOf-passes x xs e = ap (λ (b : Bool). cond b (some x) (firstOf p xs)) e
+
+  pub firstOf-fails : (x : A) (xs : List A) → p x ≡ false → firstOf p (x ∷ xs) ≡ firstOf p xs
+  unfolding firstOf
+  firstOf-fails x xs e = ap (λ (b : Bool). cond b (some x) (firstOf p xs)) e
+
+  -- nothing is found where no member passes
+  pub none-firstOf : (xs : List A) → ((x : A) → List·Memᴰ x xs → T (p x) → ⊥) → firstOf p xs ≡ none
+  none-firstOf [] f = firstOf-empty
+  none-firstOf (x ∷ xs) f =
+      firstOf-fails x xs (failed (p x) (not-T (p x) (f x (List·Memᴰ·head refl)))) ∙ none-firstOf xs (λ y m. f y (List·Memᴰ·tail m))
+
+  -- a member that passes behind members that fail is the first
+  pub firstOf-is : (xs : List A) (x : A) (ys : List A) → ((y : A) → List·Memᴰ y xs → T (p y) → ⊥) → T (p x) → firstOf p (xs ++ (x ∷ ys)) ≡ some x
+  firstOf-is [] x ys f h = firstOf-passes x ys (passed (p x) h)
+  firstOf-is (z ∷ xs) x ys f h =
+      firstOf-fails z (xs ++ (x ∷ ys)) (failed (p z) (not-T (p z) (f z (List·Memᴰ·head refl)))) ∙ firstOf-is xs x ys (λ y m. f y (List·Memᴰ·tail m)) h
+
+module _ {ℓ} {A : Type ℓ} (p q : A → Bool) where
+  -- tests that agree on the members keep the same
+  pub keep-agree : (xs : List A) → ((x : A) → List·Memᴰ x xs → p x ≡ q x) → keep p xs ≡ keep q xs
+  unfolding keep
+  keep-agree [] h = refl
+  keep-agree (x ∷ xs) h = ap₂ (λ (b : Bool) (l : List A). cond b (x ∷ l) l) (h x (List·Memᴰ·head refl)) (keep-agree xs (λ y m. h y (List·Memᴰ·tail m)))
+
+module _ {ℓ κ} {A : Type ℓ} {B : Type κ} where
+  -- one list after the other, of two lists
+  pub flatMap-append : (f : A → List B) (xs ys : List A) → flatMap f (xs ++ ys) ≡ flatMap f xs ++ flatMap f ys
+  unfolding flatMap
+  flatMap-append f [] ys = refl
+  flatMap-append f (x ∷ xs) ys = ap (λ (l : List B). f x ++ l) (flatMap-append f xs ys) ∙ sym (append-assoc (f x) (flatMap f xs) (flatMap f ys))
+
+  -- one list after the other, by two functions that agree on the members
+  pub flatMap-agree : (f g : A → List B) (xs : List A) → ((x : A) → List·Memᴰ x xs → f x ≡ g x) → flatMap f xs ≡ flatMap g xs
+  unfolding flatMap
+  flatMap-agree f g [] h = refl
+  flatMap-agree f g (x ∷ xs) h = ap₂ (λ (a b : List B). a ++ b) (h x (List·Memᴰ·head refl)) (flatMap-agree f g xs (λ y m. h y (List·Memᴰ·tail m)))
+
+-- ---- the numbers below n, one by one
+
+pub below-none : below 0 ≡ []
+unfolding below
+below-none = refl
+
+pub below-more : (n : ℕ) → below (n + 1) ≡ below n ++ (n ∷ [])
+unfolding below
+below-more n = ap below (add-one n)
+
+-- those below s, s itself, and others
+pub below-split : (n s : ℕ) → s < n → (rest : List ℕ) × (below n ≡ below s ++ (s ∷ rest))
+unfolding below
+below-split zero s h = absurd (not-suc-le-zero h)
+below-split (suc n) s h = go (below-or-is s n h) (below-split n s)
+  where
+    go : (s < n) ⊎ (s ≡ n) → (s < n → (rest : List ℕ) × (below n ≡ below s ++ (s ∷ rest))) → (rest : List ℕ) × (below n ++ (n ∷ []) ≡ below s ++ (s ∷ rest))
+    go (inl l) f = let r = f l in (r .0 ++ (n ∷ []), ap (λ (xs : List ℕ). xs ++ (n ∷ [])) (r .1) ∙ append-assoc (below s) (s ∷ r .0) (n ∷ []))
+    go (inr e) f = ([], ap (λ (k : ℕ). below k ++ (k ∷ [])) (sym e))
+
+module _ {ℓ} {B : Type ℓ} (f : ℕ → List B) where
+  -- a list for each number, of no number
+  pub flatMap-below-none : flatMap f (below 0) ≡ []
+  unfolding flatMap
+  flatMap-below-none = ap (flatMap f) below-none
+
+  -- and of one number more
+  pub flatMap-below-more : (n : ℕ) → flatMap f (below (n + 1)) ≡ flatMap f (below n) ++ f n
+  unfolding flatMap
+  flatMap-below-more n = ap (flatMap f) (below-more n) ∙ flatMap-append f (below n) (n ∷ []) ∙ ap (λ (l : List B). flatMap f (below n) ++ l) (append-nil (f n))
+
+-- the pairs below n row by row: those of s, for each s
+pub pairsBelow-rows : (n : ℕ) → pairsBelow n ≡ flatMap (λ s. map (pair s) (keep (ltb s) (below n))) (below n)
+unfolding pairsBelow
+pairsBelow-rows n = refl

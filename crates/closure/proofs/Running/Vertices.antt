@@ -1,8 +1,8 @@
 -- Vertices, what stands on a walk over edges between vertices, and the terms chosen for a middle term.
 use mathlib.Core.Bool.{Bool, true, false, cond}
-use mathlib.Core.List.{List, List·Memᴰ, List·Memᴰ·head, List·Memᴰ·tail, List·Memᴰ·not-nil}
+use mathlib.Core.List.{List, _++_, List·Memᴰ, List·Memᴰ·head, List·Memᴰ·tail, List·Memᴰ·not-nil}
 use mathlib.Core.Logic.{_⊎_, inl, inr, ⊎-elim}
-use mathlib.Core.Path.{_≡_, refl, sym, subst, _∙_}
+use mathlib.Core.Path.{_≡_, refl, sym, ap, subst, _∙_}
 use Prim.Native.Nat.{ℕ, _≤_, _<_}
 use native.Mathlib.Omega.{arith}
 use lib.Dec.{T, ltb, ltb→lt, lt→ltb, nltb→le}
@@ -96,3 +96,13 @@ module _ (ts : List Term) (ls : List Literal) (table : List Term) (G : Graph) wh
   pub chosen-joined : {xs ys ms : List ℕ} → Chosen ts ls table G xs ys ms → T (joinedPairwise G xs ys) → T (joinedPairwise G xs ms)
   chosen-joined chosen-none j = j
   chosen-joined (chosen-next {a = a} {b = b} {m = n} {as′ = xs} {bs = ys} {ms = ms} z on c) j = pairwise-cons G a n xs ms (walk-between (path-walk G a b (pairwise-head G a b xs ys j)) n on .0) (chosen-joined c (pairwise-tail G a b xs ys j))
+
+-- a given term is a vertex where it is in use
+pub vertex-given : (ts : List Term) (ls : List Literal) (st : State) (v : ℕ) → v < length ts → vertex ts ls st v ≡ inUse ts ls v
+unfolding vertex
+vertex-given ts ls st v h = ap (λ (b : Bool). cond b (inUse ts ls v) (ltb v (length (tableOf ts st)))) (passed (ltb v (length ts)) (lt→ltb v (length ts) h))
+
+-- states with the same added terms have the same vertices
+pub vertex-same : (ts : List Term) (ls : List Literal) (st after : State) → st .added ≡ after .added → (v : ℕ) → vertex ts ls st v ≡ vertex ts ls after v
+unfolding vertex
+vertex-same ts ls st after e v = ap (λ (ms : List Term). cond (ltb v (length ts)) (inUse ts ls v) (ltb v (length (ts ++ ms)))) e

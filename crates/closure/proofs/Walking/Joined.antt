@@ -79,3 +79,12 @@ joinedPairwise-more e G [] (y ∷ ys) h = h
 joinedPairwise-more e G (x ∷ xs) [] h = h
 joinedPairwise-more e G (x ∷ xs) (y ∷ ys) h =
     and-both (joined (e ∷ G) x y) (joinedPairwise (e ∷ G) xs ys) (joined-more e G x y (and-left (joined G x y) (joinedPairwise G xs ys) h)) (joinedPairwise-more e G xs ys (and-right (joined G x y) (joinedPairwise G xs ys) h))
+
+-- the label without edges, and under one edge more by the labels before
+pub label-nothing : (v : ℕ) → label [] v ≡ v
+unfolding label
+label-nothing v = refl
+
+pub label-edge : (e : Edge) (G : Graph) (v : ℕ) → label (e ∷ G) v ≡ cond (eqb (label G v) (label G (e .right))) (label G (e .left)) (label G v)
+unfolding label
+label-edge e G v = refl

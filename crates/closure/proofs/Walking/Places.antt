@@ -18,7 +18,7 @@ use Rattle.closure.proofs.Walking.Parents.{SoundHop, walked}
 -- ---- two lists
 
 -- arguments that are joined pair by pair are as many, and joined at each place
-joined-at : (H : Graph) (xs ys : List ℕ) → T (joinedPairwise H xs ys) → (k : ℕ) → k < length xs → (k < length ys) × T (joined H (getD xs k 0) (getD ys k 0))
+pub joined-at : (H : Graph) (xs ys : List ℕ) → T (joinedPairwise H xs ys) → (k : ℕ) → k < length xs → (k < length ys) × T (joined H (getD xs k 0) (getD ys k 0))
 unfolding joinedPairwise
 joined-at H [] ys j k h = absurd (not-suc-le-zero h)
 joined-at H (x ∷ xs) [] j k h = absurd j
