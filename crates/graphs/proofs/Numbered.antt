@@ -12,7 +12,8 @@ use Rattle.closure.specs.Graph.{Graph, Hop, forth, back}
 use Rattle.closure.specs.declared.Edge.{Edge}
 use Rattle.closure.specs.Walks.{HopOf, onward, backward, earlier}
 use Rattle.closure.specs.Forests.{Each}
-use Rattle.graphs.specs.Layout.{noEdge, lastFirst, newestFirst}
+use Rattle.graphs.specs.Layout.{noEdge, lastFirst, newestFirst, edgesOf}
+use Rattle.graphs.specs.declared.graph.Graph.{Graph as Kept}
 
 -- an array of structs has the length that its fields' array has: what owning it tells is said of those
 pub struct-length : (A B : Type 0) (f : A → B) (l : List A) (n : ℕ) → length (map f l) ≡ n → length l ≡ n
@@ -67,3 +68,14 @@ each-by P es i (suc n) h p = go (eq-or-lt-of-le h) (λ k. each-by P es i n k (p 
     go : (suc i ≡ suc n) ⊎ (suc i < suc n) → (i < n → P (newestFirst i es) (getD es i noEdge)) → P (newestFirst i es) (getD es i noEdge)
     go (inl q) f = let q′ : n ≡ i = omega arith in subst (λ (k : ℕ). P (newestFirst k es) (getD es k noEdge)) q′ (p .0)
     go (inr k) f = f (omega arith)
+
+-- and what holds of each edge by its number holds of each of the first n edges
+pub by-each : (P : Graph → Edge → Type 0) (es : List Edge) (n : ℕ) → ((i : ℕ) → i < n → P (newestFirst i es) (getD es i noEdge)) → Each P (newestFirst n es)
+unfolding lastFirst
+by-each P es zero f = tt
+by-each P es (suc n) f = (f n (omega arith), by-each P es n (λ i h. f i (omega arith)))
+
+-- the edges of a graph are the first of its array
+pub edges-are : (g : Kept) → edgesOf g ≡ newestFirst (g .count) (g .edges)
+unfolding edgesOf
+edges-are g = refl

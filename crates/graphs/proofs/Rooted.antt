@@ -1,5 +1,5 @@
 -- Vertices are reached one by one, each by an edge from one that was; when no edge leads on, all are.
-use mathlib.Core.List.{List, [], _∷_, map}
+use mathlib.Core.List.{List, [], _∷_}
 use mathlib.Core.Logic.{_⊎_, inl, inr, ⊎-elim}
 use mathlib.Core.Path.{_≡_, refl, sym, ap, subst, _∙_}
 use Prim.Native.Nat.{ℕ, zero, suc, _+_, _≤_, _<_}
@@ -10,19 +10,18 @@ use lib.Dec.{T, eqb}
 use lib.ListN.{length, getD, set, replicate, length-set, length-replicate}
 use lib.Seq.{getD-set-same, getD-set-other}
 use borrow.Author.Tests.{eqb-true, eqb-false}
-use Rattle.tables.specs.Words.{below}
 use Rattle.tables.proofs.Words.{by-test}
-use Rattle.tables.proofs.Filled.{map-below-at}
 use Rattle.closure.specs.Graph.{Graph, Hop, Path, label}
 use Rattle.closure.specs.declared.Edge.{Edge}
 use Rattle.closure.specs.Walks.{HopOf, onward, backward, earlier, Walk, stay, hop}
 use Rattle.closure.specs.Forests.{EndsBelow}
-use Rattle.graphs.specs.Layout.{noEdge, lastFirst, newestFirst}
+use Rattle.graphs.specs.Layout.{noEdge, lastFirst, newestFirst, labelsOf}
 use Rattle.graphs.specs.Rooting.{number, Toward, Leads, RootedBy, positives, Growing, grown, Closed}
 use Rattle.graphs.specs.declared.rooting.Rooting.{Rooting}
-use Rattle.closure.proofs.Walking.Joined.{label-joined, label-cases}
+use Rattle.closure.proofs.Walking.Joined.{label-nothing, label-joined, label-cases}
 use Rattle.closure.proofs.Walking.Walks.{path-walk}
 use Rattle.closure.proofs.Walking.Count.{label-label}
+use Rattle.graphs.proofs.LabelArray.{label-at}
 use Rattle.graphs.proofs.Numbered.{lastFirst-length, forthBy, backBy, hops-by, each-by}
 
 -- two numbers are the same or not
@@ -126,15 +125,15 @@ pub marking-same : {labels rank rank′ : List ℕ} {reached reached′ v : ℕ}
 marking-same {labels} {rank} {rank′} {reached} {reached′} {v} p q m = subst (λ (l : List ℕ). Marking labels l reached′ v) (sym p) (subst (λ (n : ℕ). Marking labels rank n v) (sym q) m)
 
 -- the roots of a graph alone are reached
-pub marking-growing : (G : Graph) {labels rank : List ℕ} {reached v : ℕ} → labels ≡ map (label G) (below 511) → Marking labels rank reached v → 511 ≤ v → Growing G (record { toward = replicate 511 0; by = replicate 511 0; rank = rank; reached = reached })
+pub marking-growing : (G : Graph) {labels rank : List ℕ} {reached v : ℕ} → labels ≡ labelsOf G → Marking labels rank reached v → 511 ≤ v → Growing G (record { toward = replicate 511 0; by = replicate 511 0; rank = rank; reached = reached })
 marking-growing G {labels} {rank} {reached} {v} q m h =
-    let label-at : (w : ℕ) → w < 511 → getD labels w 0 ≡ label G w = λ w b. ap (λ (l : List ℕ). getD l w 0) q ∙ map-below-at (label G) 511 w 0 b in
+    let here : (w : ℕ) → w < 511 → getD labels w 0 ≡ label G w = λ w b. ap (λ (l : List ℕ). getD l w 0) q ∙ label-at G w 0 b in
     record {
       long = (length-replicate {A = ℕ} 511 0, length-replicate {A = ℕ} 511 0, m .long);
       counted = m .counted;
       bounded = λ w b. m .bounded w;
-      roots = λ w b e. omega (arith, m .marked w (omega arith) (label-at w b ∙ e));
-      leads = λ w b k. let o = m .only w k in inl (sym (label-at w b) ∙ o .1, o .2);
+      roots = λ w b e. omega (arith, m .marked w (omega arith) (here w b ∙ e));
+      leads = λ w b k. let o = m .only w k in inl (sym (here w b) ∙ o .1, o .2);
     }
 
 -- ---- one vertex more
@@ -212,8 +211,7 @@ module _ {G : Graph} {r : Rooting} (g : Growing G r) (v from : ℕ) (h : Hop) (m
 
 -- a label is as small as the ends of the edges
 pub label-below : (n : ℕ) (G : Graph) → EndsBelow n G → (v : ℕ) → v < n → label G v < n
-unfolding label
-label-below n [] ends v h = h
+label-below n [] ends v h = subst (λ (x : ℕ). x < n) (sym (label-nothing v)) h
 label-below n (e ∷ G) ends v h = ⊎-elim (λ c. subst (λ (x : ℕ). x < n) (sym (c .1)) (label-below n G (ends .1) (e .left) (ends .0 .0))) (λ c. subst (λ (x : ℕ). x < n) (sym (c .1)) (label-below n G (ends .1) v h)) (label-cases e G v)
 
 -- one edge more leads nowhere new, where both its ends are reached or neither

@@ -28,5 +28,4 @@ edgesOf g = newestFirst (g .count) (g .edges)
 
 -- an array with the label of each term
 unfoldable pub labelsOf : Graph → List ℕ
-unfolding label
 labelsOf G = map (label G) (below 511)

@@ -2,12 +2,10 @@
 
 use super::graph::Graph;
 ghost use mathlib.Core.Path.{_≡_};
-ghost use mathlib.Core.List.{map};
 ghost use Prim.Native.Nat.{_≤_, _<_};
-ghost use Rattle.tables.specs.Words.{below};
-ghost use Rattle.closure.specs.Graph.{label};
+ghost use Rattle.closure.specs.Graph.{Graph as Edges};
 ghost use Rattle.closure.specs.Forests.{EndsBelow};
-ghost use Rattle.graphs.specs.Layout.{edgesOf};
+ghost use Rattle.graphs.specs.Layout.{edgesOf, labelsOf};
 ghost use Rattle.graphs.specs.Rooting.{RootedBy, rooting, Growing, Closed};
 
 // rank is 0 where a vertex is not reached yet, 1 at a root, and one more than the neighbour's toward the root.
@@ -20,7 +18,7 @@ pub struct Rooting {
 
 // The roots alone: the terms that are their own labels.
 fn roots(labels: &[u16; 511]) -> Rooting
-    ensures { λ r. ⌜ ((G : Rattle.closure.specs.Graph.Graph) → now (labels .entry) ≡ map (label G) (below 511) → Growing G r) ⌝ }
+    ensures { λ r. ⌜ ((G : Edges) → now (labels .entry) ≡ labelsOf G → Growing G r) ⌝ }
 {
     let mut rank = [0u16; 511];
     let mut reached = 0;
@@ -84,7 +82,7 @@ fn pass(
 
 // Passes until one reaches nothing more.
 pub fn rooted(graph: Graph, labels: &[u16; 511]) -> Rooting
-    requires { ⌜ (graph .count ≤ 510) × EndsBelow 511 (edgesOf graph) × (now labels ≡ map (label (edgesOf graph)) (below 511)) ⌝ }
+    requires { ⌜ (graph .count ≤ 510) × EndsBelow 511 (edgesOf graph) × (now labels ≡ labelsOf (edgesOf graph)) ⌝ }
     ensures { λ r. ⌜ RootedBy (edgesOf graph) (r .toward) (r .by) (r .rank) ⌝ }
 {
     let start = roots(labels);

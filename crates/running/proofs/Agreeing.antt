@@ -1,30 +1,24 @@
 -- Rows whose fields have the same labels are joined pair by pair, and have one key.
 use mathlib.Core.Bool.{Bool, true, false, cond}
-use mathlib.Core.List.{List, [], _∷_, map}
-use mathlib.Core.Path.{_≡_, refl, sym, ap, ap₂, _∙_}
+use mathlib.Core.List.{List, map}
+use mathlib.Core.Path.{_≡_, sym, ap, _∙_}
 use Prim.Native.Nat.{ℕ, _+_, _-_, _≤_, _<_}
 use native.Mathlib.Omega.{arith}
 use lib.Dec.{T, not-T}
 use lib.ListN.{length, getD, take, length-map, length-take, List·getD-map}
 use lib.Seq.{getD-take, ext-getD}
-use Rattle.tables.proofs.Words.{and-left, and-right, passed, failed}
-use Rattle.closure.specs.Graph.{Graph, label, joined, joinedPairwise}
+use Rattle.tables.proofs.Words.{passed, failed}
+use Rattle.closure.specs.Graph.{Graph, label, joinedPairwise}
 use Rattle.graphs.specs.Layout.{labelsOf}
 use Rattle.running.specs.Keys.{FieldsWithin, fieldLabel}
 use Rattle.closure.proofs.Walking.Joined.{joined-label}
+use Rattle.closure.proofs.Running.Congruent.{pairwise-agree}
 use Rattle.closure.proofs.Entailing.Model.{labels-joined}
 use Rattle.graphs.proofs.LabelArray.{label-at}
 
 -- lists that are joined pair by pair have one list of labels
 pub joined-labels : (G : Graph) (xs ys : List ℕ) → T (joinedPairwise G xs ys) → map (label G) xs ≡ map (label G) ys
-unfolding joinedPairwise
-joined-labels G [] [] h = refl
-joined-labels G [] (y ∷ ys) h = absurd h
-joined-labels G (x ∷ xs) [] h = absurd h
-joined-labels G (x ∷ xs) (y ∷ ys) h =
-    ap₂ (λ (a : ℕ) (as′ : List ℕ). a ∷ as′)
-    (joined-label G x y (and-left (joined G x y) (joinedPairwise G xs ys) h))
-    (joined-labels G xs ys (and-right (joined G x y) (joinedPairwise G xs ys) h))
+joined-labels G xs ys h = pairwise-agree G (label G) (joined-label G) xs ys h
 
 module _ (G : Graph) (labels : List ℕ) (e : labels ≡ labelsOf G) (arity : ℕ) where
   -- what stands at a place of the labels of the first fields

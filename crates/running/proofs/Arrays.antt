@@ -1,24 +1,14 @@
 -- Arrays that a loop fills from the front.
 use mathlib.Core.List.{List, [], _∷_, _++_, map}
-use mathlib.Core.Path.{_≡_, refl, sym, ap, ap₂, _∙_}
-use Prim.Native.Nat.{ℕ, zero, suc, _+_, _-_, _≤_, _<_, min}
+use mathlib.Core.Path.{_≡_, refl, sym, ap, _∙_}
+use Prim.Native.Nat.{ℕ, zero, suc, _+_, _-_, _≤_, _<_}
 use native.Mathlib.Omega.{arith}
-use lib.ListN.{getD, set, replicate}
+use lib.ListN.{length, getD, set, replicate}
 use lib.Seq.{set-getD, getD-at}
 use Rattle.tables.specs.Words.{below}
-use Rattle.tables.specs.Read.{filled}
-use Rattle.tables.proofs.Records.{written-more, Filling, filling-more}
-use Rattle.tables.proofs.Filled.{length-map-below, filled-agree}
-
--- a filled array with one place more
-pub filled-next {ℓ} : {X : Type ℓ} (size : ℕ) (filler : X) (n : ℕ) (f g : ℕ → X) (x : X) → n < size → ((k : ℕ) → k < n → f k ≡ g k) → x ≡ g n → set (filled size filler n f) n x ≡ filled size filler (n + 1) g
-unfolding filled
-filled-next {X = X} size filler n f g x h same e =
-    let fits : min n size ≡ n = omega arith in
-    let fits-more : n + 1 ≡ min (n + 1) size = omega arith in
-    ap₂ (λ (xs : List X) (y : X). set xs n y) (filled-agree size filler n f g same ∙ ap (λ (k : ℕ). map g (below k) ++ replicate (size - n) filler) fits) e ∙
-    written-more size filler g n h ∙
-    ap (λ (k : ℕ). map g (below k) ++ replicate (size - (n + 1)) filler) fits-more
+use Rattle.tables.proofs.Records.{Filling, filling-more}
+use Rattle.tables.proofs.Filled.{length-map-below}
+use Rattle.running.specs.Shown.{padded}
 
 -- a turn that leaves the filler in its place, where that is what the array is to hold
 pub filling-kept {ℓ} : {X : Type ℓ} (size : ℕ) (filler : X) (f : ℕ → X) (n i : ℕ) (xs : List X) → n ≤ size → Filling size filler f n i xs → i < n → filler ≡ f i → Filling size filler f n (i + 1) xs
@@ -37,3 +27,8 @@ zeros-behind [] (suc n) zero = refl
 zeros-behind [] (suc n) (suc j) = zeros-behind [] n j
 zeros-behind (x ∷ xs) n zero = refl
 zeros-behind (x ∷ xs) n (suc j) = zeros-behind xs n j
+
+-- "Argument fields past the arity are zero"
+pub padded-at : (xs : List ℕ) (j : ℕ) → getD (padded xs) j 0 ≡ getD xs j 0
+unfolding padded
+padded-at xs j = zeros-behind xs (4 - length xs) j

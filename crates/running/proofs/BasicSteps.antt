@@ -17,8 +17,8 @@ use Rattle.tables.specs.declared.Side.{Side}
 use Rattle.tables.specs.declared.Side.the-variants.{A, B}
 use Rattle.tables.specs.declared.Check.the-variants.{Sound}
 use Rattle.tables.proofs.Words.{and-right, passes, length-below, mem-below}
-use Rattle.tables.proofs.Filled.{length-map-below, map-below-at}
-use Rattle.tables.proofs.Sound.{SoundTables, sound, sound-literal, sides-within, length-termsOf}
+use Rattle.tables.proofs.Sound.{SoundTables, sound, sound-literal, sides-within, length-termsOf, length-literalsOf, literal-at}
+use Rattle.closure.proofs.Walking.Joined.{joined-by}
 use Rattle.reading.specs.Fields.{fieldsOf}
 use Rattle.reading.specs.declared.literal.Fields.{Fields}
 use Rattle.closure.specs.Graph.{Graph, label, joined}
@@ -98,16 +98,14 @@ module _ (bs ls : List ℕ) (passed : checked bs ls ≡ Sound) where
   settled = sound bs ls passed
 
   pub length-literals : length all ≡ literalCount ls
-  unfolding literalsOf
-  length-literals = length-map-below (λ k. literalOf (literalRecord ls k)) (literalCount ls)
+  length-literals = length-literalsOf ls
 
   module _ (k : ℕ) (h : k < literalCount ls) where
     abbrev literal : Literal
     literal = getD all k noLiteral
 
     literal-is : literalOf (literalRecord ls k) ≡ literal
-    unfolding literalsOf
-    literal-is = sym (map-below-at (λ j. literalOf (literalRecord ls j)) (literalCount ls) k noLiteral h)
+    literal-is = sym (literal-at ls k noLiteral h)
 
     -- the fields of the record are the literal's
     pub left-is : fieldsOf (literalRecord ls k) .left ≡ literal .left
@@ -176,7 +174,6 @@ module _ (bs ls : List ℕ) (passed : checked bs ls ≡ Sound) where
 
     -- is whether a step is taken
     test-is : test ≡ isEqual (getD all i noLiteral .kind) && not (joined (after i .graph) (getD all i noLiteral .left) (getD all i noLiteral .right))
-    unfolding joined
     test-is =
         let G = after i .graph in
         let small = sides-small i h in
@@ -184,7 +181,7 @@ module _ (bs ls : List ℕ) (passed : checked bs ls ≡ Sound) where
         shown-label (termsOf bs) all (after i) s shows (f .left) (omega (arith, ap (λ (x : Fields). x .left) read, small .0)) ∙ ap (label G) left-read in
         let at-right : getD (s .labels) (f .right) 0 ≡ label G (getD all i noLiteral .right) =
         shown-label (termsOf bs) all (after i) s shows (f .right) (omega (arith, ap (λ (x : Fields). x .right) read, small .1)) ∙ ap (label G) right-read in
-        ap₂ (λ (x y : Bool). x && y) (ap (λ (x : Fields). eqb (x .kind) 1) read ∙ kind-is i h) (ap₂ (λ (x y : ℕ). not (eqb x y)) at-left at-right)
+        ap₂ (λ (x y : Bool). x && y) (ap (λ (x : Fields). eqb (x .kind) 1) read ∙ kind-is i h) (ap₂ (λ (x y : ℕ). not (eqb x y)) at-left at-right ∙ ap not (sym (joined-by G (getD all i noLiteral .left) (getD all i noLiteral .right))))
 
     -- the state after one record more
     after-more : after (i + 1) ≡ stepBy (getD all i noLiteral) (after i)

@@ -1,29 +1,29 @@
 -- The arrays filled from the tables show the state before the first step.
-use mathlib.Core.Bool.{Bool, false, cond}
+use mathlib.Core.Bool.{false}
 use mathlib.Core.List.{List, [], _∷_, _++_, append-nil}
 use mathlib.Core.Logic.{⊎-elim}
 use mathlib.Core.Path.{_≡_, sym, ap, _∙_}
 use Prim.Native.Nat.{ℕ, _+_, _-_, _≤_, _<_}
 use native.Mathlib.Omega.{arith}
-use borrow.Author.Tests.{lt-ltb, eqb-false}
-use lib.Dec.{eqb, ltb, eqb→eq}
+use borrow.Author.Tests.{eqb-false}
+use lib.Dec.{eqb, eqb→eq}
 use lib.ListN.{length, getD, take, replicate, length-append, length-take, length-replicate, getD-replicate, List·getD-append}
 use lib.Seq.{ext-getD, getD-take, getD-append-add}
 use Rattle.tables.specs.Terms.{Term, termAt}
 use Rattle.tables.specs.TermTable.{termCount, termRecord, symbolField, arityField, argumentField, rowOf, termOf, termsOf}
 use Rattle.tables.specs.LiteralTable.{literalsOf}
 use Rattle.tables.specs.Colours.{inUse}
-use Rattle.tables.specs.Checks.{checked, numberOf}
-use Rattle.tables.specs.Read.{filled, colourNumber, argumentRows, soundTables, refusedTables, tablesRead}
-use Rattle.tables.specs.declared.Check.{Check}
+use Rattle.tables.specs.Checks.{checked}
+use Rattle.tables.specs.Read.{filled, colourNumber, argumentRows, soundTables, tablesRead}
 use Rattle.tables.specs.declared.Check.the-variants.{Sound}
 use Rattle.tables.specs.declared.Tables.{Tables}
 use Rattle.tables.specs.Rows.{unused-not-zero}
 use Rattle.tables.proofs.Words.{by-test, passes, below-or-not}
 use Rattle.tables.proofs.Records.{Filling, filling-all}
 use Rattle.tables.proofs.Filled.{filled-at, filled-agree}
-use Rattle.tables.proofs.Sound.{SoundTables, sound, length-termsOf, termAt-termsOf, row-at, length-row, arity-small}
+use Rattle.tables.proofs.Sound.{SoundTables, sound, sound-read, length-termsOf, termAt-termsOf, row-at, length-row, arity-small}
 use Rattle.closure.specs.Steps.{begin, tableOf, vertex}
+use Rattle.closure.proofs.Running.Vertices.{vertex-given}
 use Rattle.graphs.specs.Layout.{edgesOf, labelsOf}
 use Rattle.running.specs.Shown.{padded, rowFor, column}
 use Rattle.running.specs.Opening.{ReadFrom, Opens}
@@ -65,10 +65,7 @@ arity-length bs ls s k h =
 
 -- sound tables are read as such
 pub read-sound : (t : Tables) (from : ReadFrom t) → t ≡ soundTables Sound (from .terms) (from .literals)
-unfolding tablesRead numberOf
-read-sound t from =
-    from .read ∙
-    ap (λ (c : Check). cond (eqb (numberOf c) 0) (soundTables c (from .terms) (from .literals)) (refusedTables c)) (from .sound)
+read-sound t from = from .read ∙ sound-read (from .terms) (from .literals) (from .sound)
 
 -- so they are from the same terms and the literals that are lent
 abbrev pub lent : {t : Tables} (from : ReadFrom t) (ls : List ℕ) → from .literals ≡ ls → ReadFrom t
@@ -125,7 +122,7 @@ module _ (t : Tables) (from : ReadFrom t) where
       ap (λ (m : ℕ). filled 511 filler m h) (n-is ∙ terms-are ∙ sym length-table)
 
   pub opens : (given : List (List ℕ)) (n i : ℕ) (st : Arrays) → n ≡ t .terms → n ≤ i → Copied t given n i st → given ≡ argumentRows bs → Opens from st
-  unfolding soundTables argumentRows padded vertex termOf
+  unfolding soundTables argumentRows padded termOf
   opens given n i st n-is done c rows-are =
       let ts = termsOf bs in
       let lits = literalsOf ls in
@@ -148,7 +145,7 @@ module _ (t : Tables) (from : ReadFrom t) where
         colours = opened-column 0 0 (colourNumber ts lits ts) (colourNumber ts lits table) (st .colours) (t .colours) n i n-is done (ap (λ (x : Tables). x .colours) read) (c .colours) (λ k l. sym (ap (λ (x : List Term). colourNumber ts lits x k) (append-nil ts)));
         vertices =
             opened-column false false (inUse ts lits) (vertex ts lits begin) (st .vertices) (t .used) n i n-is done (ap (λ (x : Tables). x .used) read) (c .vertices)
-            (λ k l. sym (ap (λ (b : Bool). cond b (inUse ts lits k) (ltb k (length table))) (lt-ltb k (length ts) (omega (arith, length-termsOf bs)))));
+            (λ k l. sym (vertex-given ts lits begin k (omega (arith, length-termsOf bs))));
         edges = c .edges;
         count = c .count;
         labels = c .labels;

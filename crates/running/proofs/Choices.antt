@@ -1,23 +1,21 @@
 -- The choice of shared terms, argument by argument: the first shared stop on each parent path.
-use mathlib.Core.Bool.{Bool, true, false, cond, _&&_}
-use mathlib.Core.List.{List, [], _∷_, _++_, append-assoc, append-nil, List·Memᴰ, List·Memᴰ·head, List·Memᴰ·tail}
+use mathlib.Core.Bool.{true, false}
+use mathlib.Core.List.{List, [], _∷_, _++_, append-assoc, append-nil, List·Memᴰ}
 use mathlib.Core.Option.{Option, some, none}
 use mathlib.Core.Path.{_≡_, refl, sym, ap, ap₂, subst, _∙_}
-use Prim.Native.Nat.{ℕ, zero, suc, _+_, _-_, _≤_, _<_}
+use Prim.Native.Nat.{ℕ, suc, _+_, _-_, _≤_, _<_}
 use native.Mathlib.Numerals.{add-one}
 use native.Mathlib.Omega.{arith}
 use lib.Dec.{T, eqb, ltb, lt→ltb, ltb→lt}
-use lib.ListN.{length, getD, take, drop, set, replicate, length-append, length-take, length-map, drop-of-length-le, List·getD-append}
+use lib.ListN.{length, getD, take, drop, set, replicate, length-append, length-take, length-map, drop-of-length-le}
 use lib.Seq.{drop-cons, getD-take, set-at}
 use Rattle.tables.specs.Words.{firstOf}
-use Rattle.tables.specs.Terms.{Term}
-use Rattle.tables.specs.LiteralTable.{Literal}
-use Rattle.tables.specs.declared.Side.the-variants.{A, B}
-use Rattle.tables.specs.Colours.{colourable, shared}
+use Rattle.tables.specs.Colours.{shared}
 use Rattle.tables.specs.Read.{colourNumber}
-use Rattle.tables.proofs.Words.{getD-mem}
+use Rattle.tables.proofs.Words.{getD-mem, firstOf-agree}
+use Rattle.tables.proofs.Colours.{shared-test}
 use Rattle.tables.proofs.Filled.{filled-at}
-use Rattle.closure.specs.Graph.{Graph, joined, path, vertices, joinedPairwise}
+use Rattle.closure.specs.Graph.{Graph, joined, path, vertices}
 use Rattle.closure.specs.OwnRun.{andThen, firstShared}
 use Rattle.closure.specs.Forests.{EndsBelow}
 use Rattle.running.specs.Shown.{padded}
@@ -26,39 +24,13 @@ use Rattle.running.specs.Stepping.{Choosing, ChoiceOf}
 use Rattle.running.specs.declared.Row.{Row}
 use Rattle.graphs.specs.declared.paths.Trail.{Trail}
 use Rattle.running.specs.declared.step.Choice.{Choice}
-use Rattle.closure.proofs.Running.Congruent.{pairwise-head, pairwise-tail}
+use Rattle.closure.proofs.Walking.Places.{joined-at}
 use Rattle.closure.proofs.Walking.ParentPaths.{each-map}
 use Rattle.closure.proofs.Running.Vertices.{EndsAmong, walk-among}
 use Rattle.closure.proofs.Walking.Walks.{path-walk}
+use Rattle.running.proofs.Arrays.{padded-at}
 
 -- ---- the colours, the rows and the parent paths
-
--- a term is shared where its colours are both
-pub shared-test : (ts : List Term) (ls : List Literal) (table : List Term) (v : ℕ) → eqb (colourNumber ts ls table v) 3 ≡ shared ts ls table v
-unfolding colourNumber shared
-shared-test ts ls table v = go (colourable ts ls A table v) (colourable ts ls B table v)
-  where
-    go : (a b : Bool) → eqb (cond a 1 0 + cond b 2 0) 3 ≡ a && b
-    go true true = refl
-    go true false = refl
-    go false true = refl
-    go false false = refl
-
--- tests that agree on the members find the same first one
-pub firstOf-agree : (p q : ℕ → Bool) (xs : List ℕ) → ((x : ℕ) → List·Memᴰ x xs → p x ≡ q x) → firstOf p xs ≡ firstOf q xs
-unfolding firstOf
-firstOf-agree p q [] f = refl
-firstOf-agree p q (x ∷ xs) f =
-    ap₂ (λ (b : Bool) (o : Option ℕ). cond b (some x) o) (f x (List·Memᴰ·head refl)) (firstOf-agree p q xs (λ y m. f y (List·Memᴰ·tail m)))
-
--- terms joined pair by pair are joined at each place
-pub pairwise-at : (G : Graph) (xs ys : List ℕ) → T (joinedPairwise G xs ys) → (j : ℕ) → j < length xs → T (joined G (getD xs j 0) (getD ys j 0))
-unfolding joinedPairwise
-pairwise-at G [] [] h j l = let z : ⊥ = omega arith in absurd z
-pairwise-at G [] (y ∷ ys) h j l = absurd h
-pairwise-at G (x ∷ xs) [] h j l = absurd h
-pairwise-at G (x ∷ xs) (y ∷ ys) h zero l = pairwise-head G x y xs ys h
-pairwise-at G (x ∷ xs) (y ∷ ys) h (suc j) l = pairwise-at G xs ys (pairwise-tail G x y xs ys h) j (omega arith)
 
 -- what stands on the path between joined terms is below n where the terms and the ends of the edges are
 pub path-below : (n : ℕ) (G : Graph) (u v : ℕ) → EndsBelow n G → u < n → T (joined G u v) → (m : ℕ) → List·Memᴰ m (vertices u (path G u v)) → m < n
@@ -139,13 +111,11 @@ module _ {colours toward by rank : List ℕ} {of-s of-t : Row} {arity : ℕ} (w 
 
     -- the code reads them off the rows
     pub left-field : getD (of-s .args) j 0 ≡ u
-    unfolding padded
-    left-field = ap (λ (xs : List ℕ). getD xs j 0) (w .left-is) ∙ List·getD-append (w .left) (replicate (4 - length (w .left)) 0) 0 j (omega (arith, w .left-length))
+    left-field = ap (λ (xs : List ℕ). getD xs j 0) (w .left-is) ∙ padded-at (w .left) j
 
     -- and so of t
     pub right-field : getD (of-t .args) j 0 ≡ v
-    unfolding padded
-    right-field = ap (λ (xs : List ℕ). getD xs j 0) (w .right-is) ∙ List·getD-append (w .right) (replicate (4 - length (w .right)) 0) 0 j (omega (arith, w .right-length))
+    right-field = ap (λ (xs : List ℕ). getD xs j 0) (w .right-is) ∙ padded-at (w .right) j
 
     -- they are terms of the table
     pub left-below : u < length (w .table)
@@ -157,7 +127,7 @@ module _ {colours toward by rank : List ℕ} {of-s of-t : Row} {arity : ℕ} (w 
 
     -- which the graph joins
     are-joined : T (joined (w .graph) u v)
-    are-joined = pairwise-at (w .graph) (w .left) (w .right) (w .join) j (omega (arith, w .left-length))
+    are-joined = joined-at (w .graph) (w .left) (w .right) (w .join) j (omega (arith, w .left-length)) .1
 
     -- so the code can walk between them
     pub walks : Joining toward by rank (getD (of-s .args) j 0) (getD (of-t .args) j 0) (w .graph)

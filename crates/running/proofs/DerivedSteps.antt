@@ -4,7 +4,7 @@ use mathlib.Core.List.{List}
 use mathlib.Core.Logic.{_⊎_, inl, inr, ⊎-elim}
 use mathlib.Core.Option.{Option, some}
 use mathlib.Core.Path.{_≡_, refl, sym, ap, ap₂, subst, _∙_}
-use Prim.Native.Nat.{ℕ, _+_, _%_, _<_}
+use Prim.Native.Nat.{ℕ, _%_, _<_}
 use native.Mathlib.Omega.{arith}
 use lib.Dec.{T, eqb, leb}
 use lib.ListN.{getD}
@@ -14,8 +14,8 @@ use Rattle.tables.specs.LiteralTable.{Literal}
 use Rattle.tables.specs.declared.Side.{Side}
 use Rattle.tables.specs.declared.Side.the-variants.{A, B}
 use Rattle.tables.specs.Colours.{colourable, edgeColourable}
-use Rattle.tables.specs.Read.{colourNumber}
 use Rattle.tables.proofs.Words.{passes, fails}
+use Rattle.tables.proofs.Colours.{edgeColourable-ends, odd-test, two-test}
 use Rattle.closure.specs.Graph.{joined}
 use Rattle.closure.specs.declared.EdgeKind.the-variants.{Derived as derived}
 use Rattle.closure.specs.Steps.{State, tableOf, vertex, congruent, withEdge, derived-step}
@@ -29,28 +29,6 @@ use Rattle.closure.proofs.Running.OwnSteps.{unjoined-sym, apart-from-left, apar
 use Rattle.closure.proofs.Running.OwnRun.{derivable-parts}
 use Rattle.running.proofs.Showing.{shown-colour}
 use Rattle.running.proofs.OnRuns.{on-run-sound, vertex-small, step-edges}
-
--- the colours as one number: it is odd where a term is A-colourable
-pub odd-test : (ts : List Term) (ls : List Literal) (table : List Term) (v : ℕ) → eqb (colourNumber ts ls table v % 2) 1 ≡ colourable ts ls A table v
-unfolding colourNumber
-odd-test ts ls table v = go (colourable ts ls A table v) (colourable ts ls B table v)
-  where
-    go : (a b : Bool) → eqb ((cond a 1 0 + cond b 2 0) % 2) 1 ≡ a
-    go true true = refl
-    go true false = refl
-    go false true = refl
-    go false false = refl
-
--- and 2 or more where it is B-colourable
-pub two-test : (ts : List Term) (ls : List Literal) (table : List Term) (v : ℕ) → leb 2 (colourNumber ts ls table v) ≡ colourable ts ls B table v
-unfolding colourNumber
-two-test ts ls table v = go (colourable ts ls A table v) (colourable ts ls B table v)
-  where
-    go : (a b : Bool) → leb 2 (cond a 1 0 + cond b 2 0) ≡ b
-    go true true = refl
-    go true false = refl
-    go false true = refl
-    go false false = refl
 
 -- ---- what a colour says of the tests
 
@@ -141,13 +119,11 @@ module _ {a : Arrays} (run : OnRun a) (s t : ℕ) (d : T (derivable (run .ts) (r
 
   -- both ends are B-colourable
   both-b : leb 2 x && leb 2 y ≡ edgeColourable ts ls B table s t
-  unfolding edgeColourable
-  both-b = ap₂ (λ (p q : Bool). p && q) (two-at s left-vertex) (two-at t right-vertex)
+  both-b = ap₂ (λ (p q : Bool). p && q) (two-at s left-vertex) (two-at t right-vertex) ∙ sym (edgeColourable-ends ts ls B table s t)
 
   -- both ends are A-colourable
   both-a : eqb (x % 2) 1 && eqb (y % 2) 1 ≡ edgeColourable ts ls A table s t
-  unfolding edgeColourable
-  both-a = ap₂ (λ (p q : Bool). p && q) (odd-at s left-vertex) (odd-at t right-vertex)
+  both-a = ap₂ (λ (p q : Bool). p && q) (odd-at s left-vertex) (odd-at t right-vertex) ∙ sym (edgeColourable-ends ts ls A table s t)
 
   -- ---- what comes out
 

@@ -1,6 +1,6 @@
 -- What the arrays of a state of a run hold: numbers that fit, rows of four, a rooted forest to choose on, and room for the next step.
 use mathlib.Core.Bool.{Bool, true, false, not}
-use mathlib.Core.List.{List, [], _∷_, _++_, map, append-assoc}
+use mathlib.Core.List.{List, [], _∷_, _++_, append-assoc}
 use mathlib.Core.Logic.{inr, ⊎-elim}
 use mathlib.Core.Option.{Option, some, none, Option·map}
 use mathlib.Core.Path.{_≡_, sym, ap, subst, _∙_}
@@ -8,7 +8,6 @@ use Prim.Native.Nat.{ℕ, _≤_, _<_}
 use native.Mathlib.Omega.{arith}
 use lib.Dec.{T, not-T}
 use lib.ListN.{length, getD, length-append, length-map}
-use Rattle.tables.specs.Words.{below}
 use Rattle.tables.specs.Terms.{Term, termAt}
 use Rattle.tables.specs.LiteralTable.{Literal}
 use Rattle.tables.specs.declared.Side.the-variants.{A, B}
@@ -102,12 +101,11 @@ module _ {a : Arrays} (run : OnRun a) where
   on-run-ends = each-map (EndsAmong (vertex ts ls st)) (λ G e. (e .left < length table) × (e .right < length table)) (λ G e p. (vertex-within ts ls st (e .left) (p .0), vertex-within ts ls st (e .right) (p .1))) (st .graph) (on-run-sound .ends)
 
   -- so it can be rooted
-  pub can-root : (a .graph .count ≤ 510) × EndsBelow 511 (edgesOf (a .graph)) × (a .labels ≡ map (label (edgesOf (a .graph))) (below 511))
-  unfolding labelsOf
+  pub can-root : (a .graph .count ≤ 510) × EndsBelow 511 (edgesOf (a .graph)) × (a .labels ≡ labelsOf (edgesOf (a .graph)))
   can-root = (
     omega (arith, run .shows .count, few-edges ts ls (run .checked .lower) (run .checked .sides) (run .checked .few) (run .run)),
     subst (EndsBelow 511) (sym (run .shows .edges)) (each-map (λ G e. (e .left < length table) × (e .right < length table)) (λ G e. (e .left < 511) × (e .right < 511)) (λ G e p. (omega (arith, p .0, run .shows .within), omega (arith, p .1, run .shows .within))) (st .graph) on-run-ends),
-    run .shows .labels ∙ ap (λ (G : Graph). map (label G) (below 511)) (sym (run .shows .edges)),
+    run .shows .labels ∙ ap labelsOf (sym (run .shows .edges)),
   )
 
   -- a step leads to a state of a run, so it has no more than 510 edges and 255 added terms

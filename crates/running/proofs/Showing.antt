@@ -1,25 +1,24 @@
 -- The arrays go on showing the state: with one edge more, and with one term more.
 use mathlib.Core.Bool.{Bool, true, false, cond}
 use mathlib.Core.List.{List, [], _∷_, _++_, map, append-assoc}
+use mathlib.Core.Logic.{⊎-elim}
 use mathlib.Core.Path.{_≡_, refl, sym, ap, ap₂, _∙_}
-use Prim.Native.Nat.{ℕ, suc, _+_, _-_, _<_}
+use Prim.Native.Nat.{ℕ, suc, _+_, _-_, _≤_, _<_}
 use native.Mathlib.Numerals.{add-one}
 use native.Mathlib.Omega.{arith}
-use borrow.Author.Tests.{le-ltb, lt-ltb}
-use lib.Dec.{T, eqb, ltb}
+use lib.Dec.{T, eqb}
 use lib.ListN.{length, getD, take, set, replicate, length-append, List·getD-append}
 use lib.Seq.{getD-at, take-append-seam}
-use Rattle.tables.specs.Words.{every}
-use Rattle.tables.specs.Terms.{Term, noTerm, termAt, symbols}
+use Rattle.tables.specs.Terms.{Term, noTerm, termAt}
 use Rattle.tables.specs.Parts.{LowerArguments}
 use Rattle.tables.specs.LiteralTable.{Literal}
 use Rattle.tables.specs.declared.Side.{Side}
-use Rattle.tables.specs.declared.Side.the-variants.{A, B}
-use Rattle.tables.specs.Colours.{inUse, occursIn, colourable, shared}
+use Rattle.tables.specs.Colours.{inUse, shared}
 use Rattle.tables.specs.Read.{filled, colourNumber}
-use Rattle.tables.proofs.Words.{and-left, and-right, passed}
-use Rattle.tables.proofs.Terms.{symbols-append}
-use Rattle.tables.proofs.Filled.{filled-at, length-map-below}
+use Rattle.tables.proofs.Words.{passed, below-or-not}
+use Rattle.tables.proofs.Colours.{shared-number, number-append}
+use Rattle.tables.proofs.Filled.{filled-at, filled-agree, filled-next}
+use Rattle.closure.proofs.Running.Vertices.{added-vertex, vertex-given, vertex-same}
 use Rattle.closure.specs.Graph.{Graph, label}
 use Rattle.closure.specs.declared.Edge.{Edge}
 use Rattle.closure.specs.declared.EdgeKind.{EdgeKind}
@@ -30,8 +29,7 @@ use Rattle.running.specs.Keys.{noRow}
 use Rattle.running.specs.declared.Row.{Row}
 use Rattle.graphs.specs.declared.graph.Graph.{Graph as Kept}
 use Rattle.running.specs.declared.state.State.{State as Arrays}
-use Rattle.running.proofs.Arrays.{filled-next}
-use Rattle.graphs.proofs.LabelArray.{label-at, labels-edge}
+use Rattle.graphs.proofs.LabelArray.{label-at, labels-length, labels-edge}
 
 -- the rule by which one edge changes a label
 abbrev pub relabelling : List ℕ → ℕ → ℕ → ℕ → ℕ
@@ -60,8 +58,7 @@ module _ (ts : List Term) (ls : List Literal) (st : State) (s : Arrays) (h : Sho
 
   -- there are 511 labels
   pub shown-length : length (s .labels) ≡ 511
-  unfolding labelsOf
-  shown-length = ap length (h .labels) ∙ length-map-below (label (st .graph)) 511
+  shown-length = ap length (h .labels) ∙ labels-length (st .graph)
 
   -- a given term is a term of the table
   pub given-within : (v : ℕ) → v < length ts → v < length (tableOf ts st)
@@ -69,8 +66,7 @@ module _ (ts : List Term) (ls : List Literal) (st : State) (s : Arrays) (h : Sho
 
   -- a given term is a vertex where it is in use
   pub shown-in-use : (v : ℕ) → v < length ts → getD (s .vertices) v false ≡ inUse ts ls v
-  unfolding vertex
-  shown-in-use v l = shown-vertex v (given-within v l) ∙ ap (λ (b : Bool). cond b (inUse ts ls v) (ltb v (length (tableOf ts st)))) (lt-ltb v (length ts) l)
+  shown-in-use v l = shown-vertex v (given-within v l) ∙ vertex-given ts ls st v l
 
   -- the used fields of a term's row are its arguments
   pub shown-arguments : (v : ℕ) → v < length (tableOf ts st) → (n : ℕ) → n ≡ length (termAt (tableOf ts st) v .arguments) → take n (getD (s .rows) v noRow .args) ≡ termAt (tableOf ts st) v .arguments
@@ -88,7 +84,6 @@ module _ (ts : List Term) (ls : List Literal) (st : State) (s : Arrays) (h : Sho
 
   -- one edge more
   pub shows-edge : (left right : ℕ) (colour : Side) (kind : EdgeKind) (g : Kept) (labels : List ℕ) → left < 511 → right < 511 → edgesOf g ≡ record { left = left; right = right; colour = colour; kind = kind } ∷ edgesOf (s .graph) → g .count ≡ s .graph .count + 1 → labels ≡ map (relabelling (s .labels) left right) (s .labels) → Shows ts ls (withEdge st left right colour kind) (regraphed s g labels)
-  unfolding vertex
   shows-edge left right colour kind g labels l r edges count new =
       let e : Edge = record { left = left; right = right; colour = colour; kind = kind } in
       record {
@@ -98,7 +93,7 @@ module _ (ts : List Term) (ls : List Literal) (st : State) (s : Arrays) (h : Sho
         arities = h .arities;
         rows = h .rows;
         colours = h .colours;
-        vertices = h .vertices;
+        vertices = h .vertices ∙ filled-agree 511 false (length (tableOf ts st)) (vertex ts ls st) (vertex ts ls (withEdge st left right colour kind)) (λ v w. vertex-same ts ls st (withEdge st left right colour kind) refl v);
         edges = edges ∙ ap (λ (G : Graph). e ∷ G) (h .edges);
         count = count ∙ add-one (s .graph .count) ∙ ap suc (h .count);
         labels = new ∙ shown-labels e l r;
@@ -110,21 +105,6 @@ shows-halted ts ls st s b h =
     record { within = h .within; terms = h .terms; symbols = h .symbols; arities = h .arities; rows = h .rows; colours = h .colours; vertices = h .vertices; edges = h .edges; count = h .count; labels = h .labels }
 
 -- ---- one term more
-
--- a shared term has both colours
-pub shared-number : (ts : List Term) (ls : List Literal) (table : List Term) (v : ℕ) → T (shared ts ls table v) → colourNumber ts ls table v ≡ 3
-unfolding shared colourNumber
-shared-number ts ls table v h =
-    ap₂ (λ (a b : Bool). cond a 1 0 + cond b 2 0)
-    (passed (colourable ts ls A table v) (and-left (colourable ts ls A table v) (colourable ts ls B table v) h))
-    (passed (colourable ts ls B table v) (and-right (colourable ts ls A table v) (colourable ts ls B table v) h))
-
--- terms behind the table change no colour
-pub number-append : (ts : List Term) (ls : List Literal) (table more : List Term) → LowerArguments table → (v : ℕ) → v < length table → colourNumber ts ls (table ++ more) v ≡ colourNumber ts ls table v
-unfolding colourNumber colourable
-number-append ts ls table more lower v h =
-    ap (λ (fs : List ℕ). cond (every (occursIn ts ls A) fs) 1 0 + cond (every (occursIn ts ls B) fs) 2 0)
-    (symbols-append table more lower v h)
 
 module _ (ts : List Term) (ls : List Literal) (st : State) (m : Term) where
   -- the table with the added term behind
@@ -147,22 +127,20 @@ module _ (ts : List Term) (ls : List Literal) (st : State) (m : Term) where
   column-more filler f g x h same e =
       filled-next 511 filler (length (tableOf ts st)) f g x h same e ∙ ap (λ (k : ℕ). filled 511 filler k g) (sym length-more)
 
+  -- a term behind the given ones is a vertex then
+  added-passes : (k : ℕ) → length ts ≤ k → k < length (tableOf ts (withTerm st m)) → vertex ts ls (withTerm st m) k ≡ true
+  added-passes k l h = passed (vertex ts ls (withTerm st m) k) (added-vertex ts ls (withTerm st m) k l h)
+
   -- what was a vertex is one, and nothing else
   vertex-before : (k : ℕ) → k < length (tableOf ts st) → vertex ts ls st k ≡ vertex ts ls (withTerm st m) k
-  unfolding vertex
   vertex-before k h =
-      ap (λ (b : Bool). cond (ltb k (length ts)) (inUse ts ls k) b)
-      (lt-ltb k (length (tableOf ts st)) h ∙ sym (lt-ltb k (length (tableOf ts (withTerm st m))) (omega (arith, length-more))))
+      ⊎-elim (λ (l : k < length ts). vertex-given ts ls st k l ∙ sym (vertex-given ts ls (withTerm st m) k l))
+      (λ (l : length ts ≤ k). passed (vertex ts ls st k) (added-vertex ts ls st k l h) ∙ sym (added-passes k l (omega (arith, length-more))))
+      (below-or-not k (length ts))
 
   -- the added term is a vertex
   vertex-new : true ≡ vertex ts ls (withTerm st m) (length (tableOf ts st))
-  unfolding vertex
-  vertex-new =
-      let n = length (tableOf ts st) in
-      sym
-      (ap₂ (λ (a b : Bool). cond a (inUse ts ls n) b)
-      (le-ltb n (length ts) (omega (arith, length-append ts (st .added))))
-      (lt-ltb n (length (tableOf ts (withTerm st m))) (omega (arith, length-more))))
+  vertex-new = sym (added-passes (length (tableOf ts st)) (omega (arith, length-append ts (st .added))) (omega (arith, length-more)))
 
 -- the arrays with one term more at a place
 abbrev pub enlarged : Arrays → ℕ → ℕ → Row → ℕ → Arrays

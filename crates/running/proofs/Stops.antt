@@ -1,5 +1,5 @@
 -- The search for the first stop that passes a test, from the front.
-use mathlib.Core.Bool.{Bool, true, false, cond}
+use mathlib.Core.Bool.{Bool, true, false}
 use mathlib.Core.List.{List, _∷_}
 use mathlib.Core.Option.{some, none}
 use mathlib.Core.Path.{_≡_, refl, sym, ap, _∙_}
@@ -9,6 +9,7 @@ use native.Mathlib.Omega.{arith}
 use lib.ListN.{length, getD, take, drop, length-take, drop-of-length-le}
 use lib.Seq.{drop-cons, getD-take}
 use Rattle.tables.specs.Words.{firstOf}
+use Rattle.tables.proofs.Words.{firstOf-empty, firstOf-passes, firstOf-fails}
 
 -- of the first n stops the first i fail
 abbrev pub Failed : (ℕ → Bool) → List ℕ → ℕ → ℕ → Type 0
@@ -35,23 +36,16 @@ module _ (p : ℕ → Bool) (stops : List ℕ) (n : ℕ) (long : n ≤ length st
 
   -- one more fails
   pub failed-more : (i : ℕ) → Failed p stops n i → i < n → p (getD stops i 0) ≡ false → Failed p stops n (i + 1)
-  unfolding firstOf
   failed-more i w h e = (
     omega arith,
-    w .1 ∙ ap (firstOf p) (front-cons i h) ∙
-        ap (λ (b : Bool). cond b (some (getD stops i 0)) (firstOf p (drop (suc i) front))) e ∙
+    w .1 ∙ ap (firstOf p) (front-cons i h) ∙ firstOf-fails p (getD stops i 0) (drop (suc i) front) e ∙
         ap (λ (k : ℕ). firstOf p (drop k front)) (sym (add-one i)),
   )
 
   -- the next one passes
   pub failed-until : (i : ℕ) → Failed p stops n i → i < n → p (getD stops i 0) ≡ true → some (getD stops i 0) ≡ firstOf p front
-  unfolding firstOf
-  failed-until i w h e =
-      sym
-      (w .1 ∙ ap (firstOf p) (front-cons i h) ∙
-      ap (λ (b : Bool). cond b (some (getD stops i 0)) (firstOf p (drop (suc i) front))) e)
+  failed-until i w h e = sym (w .1 ∙ ap (firstOf p) (front-cons i h) ∙ firstOf-passes p (getD stops i 0) (drop (suc i) front) e)
 
   -- all of them fail
   pub failed-all : (i : ℕ) → Failed p stops n i → n ≤ i → none ≡ firstOf p front
-  unfolding firstOf
-  failed-all i w h = sym (w .1 ∙ ap (firstOf p) (drop-of-length-le front {i = i} (omega (arith, front-length))))
+  failed-all i w h = sym (w .1 ∙ ap (firstOf p) (drop-of-length-le front {i = i} (omega (arith, front-length))) ∙ firstOf-empty p)
