@@ -3,7 +3,7 @@ use mathlib.Core.Bool.{false}
 use mathlib.Core.List.{List}
 use mathlib.Core.Logic.{⊎-elim}
 use mathlib.Core.Path.{_≡_, refl, sym, ap, _∙_, subst}
-use Prim.Native.Nat.{ℕ, zero, suc, _+_, _≤_, _<_}
+use Prim.Native.Nat.{ℕ, _+_, _≤_, _<_}
 use native.Mathlib.Nat.{not-suc-le-zero}
 use native.Mathlib.Omega.{arith}
 use lib.ListN.{length, getD, set, replicate, length-set, length-replicate}
@@ -11,8 +11,8 @@ use lib.Seq.{getD-set-same, getD-set-other}
 use Rattle.tables.proofs.Words.{below-or-is}
 use Rattle.closure.specs.declared.Edge.{Edge}
 use Rattle.closure.specs.Forests.{Each}
-use Rattle.graphs.specs.Layout.{noEdge, lastFirst, newestFirst}
-use Rattle.graphs.proofs.Numbered.{lastFirst-length}
+use Rattle.graphs.specs.Layout.{noEdge, newestFirst}
+use Rattle.graphs.proofs.Numbered.{lastFirst-length, by-each}
 use Rattle.marking.specs.Marks.{isB}
 use Rattle.marking.specs.Drawn.{isDerived, PartsAt}
 use Rattle.marking.specs.declared.edges.Columns.{Columns}
@@ -74,15 +74,12 @@ module _ (es : List Edge) where
 
   -- all edges stand under their numbers
   pub laid-all : (n i : ℕ) (c : Columns) → n ≤ i → Laid i c → Each (PartsAt (c .lefts) (c .rights) (c .inb) (c .derived)) (newestFirst n es)
-  unfolding lastFirst
-  laid-all zero i c h w = tt
-  laid-all (suc n) i c h w =
-      let m = lastFirst-length noEdge n es in (
-        record {
-          left-at = ap (λ (k : ℕ). getD (c .lefts) k 0) m ∙ w .lefts .at n (omega arith);
-          right-at = ap (λ (k : ℕ). getD (c .rights) k 0) m ∙ w .rights .at n (omega arith);
-          colour-at = ap (λ (k : ℕ). getD (c .inb) k false) m ∙ w .inb .at n (omega arith);
-          kind-at = ap (λ (k : ℕ). getD (c .derived) k false) m ∙ w .derived .at n (omega arith);
-        },
-        laid-all n i c (omega arith) w,
-      )
+  laid-all n i c h w =
+      by-each (PartsAt (c .lefts) (c .rights) (c .inb) (c .derived)) es n
+      (λ k l. let m = lastFirst-length noEdge k es in
+      record {
+        left-at = ap (λ (j : ℕ). getD (c .lefts) j 0) m ∙ w .lefts .at k (omega arith);
+        right-at = ap (λ (j : ℕ). getD (c .rights) j 0) m ∙ w .rights .at k (omega arith);
+        colour-at = ap (λ (j : ℕ). getD (c .inb) j false) m ∙ w .inb .at k (omega arith);
+        kind-at = ap (λ (j : ℕ). getD (c .derived) j false) m ∙ w .derived .at k (omega arith);
+      })

@@ -1,6 +1,6 @@
 -- What is marked after stretches are read, and the clauses written from the marks.
 use mathlib.Core.Bool.{Bool, true, false, cond}
-use mathlib.Core.List.{List, [], _∷_, _++_, map, flatMap, append-assoc, append-nil, List·Memᴰ, List·Memᴰ·not-nil}
+use mathlib.Core.List.{List, [], _∷_, _++_, map, flatMap, append-nil, List·Memᴰ, List·Memᴰ·not-nil}
 use mathlib.Core.Logic.{_⊎_, inl, inr, ⊎-elim, _↔_}
 use mathlib.Core.Path.{_≡_, refl, sym, ap, ap₂, subst, _∙_}
 use Prim.Native.Nat.{ℕ, zero, suc, _+_, _*_, _≤_, _<_}
@@ -10,7 +10,7 @@ use lib.ListN.{length, getD, replicate, length-append}
 use Rattle.tables.specs.Words.{Pair, pair, below, keep, pairsBelow}
 use Rattle.tables.specs.Terms.{Term}
 use Rattle.tables.specs.LiteralTable.{Literal}
-use Rattle.tables.proofs.Words.{passes, same-test, pairsBelow-mem}
+use Rattle.tables.proofs.Words.{passes, same-test, pairsBelow-mem, keep-empty, keep-append, keep-agree, flatMap-append, flatMap-below-none, flatMap-below-more, pairsBelow-rows}
 use Rattle.closure.specs.Graph.{Graph, Hop, Path, path}
 use Rattle.closure.specs.Walks.{HopOf}
 use Rattle.closure.proofs.Walking.Walks.{older-fewer}
@@ -29,7 +29,7 @@ use Rattle.clauses.proofs.Pieces.{no-factor, records-clause, record-equals, rec
 use Rattle.clauses.proofs.OneClause.{premise-within, premisesIn-mean}
 use Rattle.clauses.proofs.Records.{record-length, conclusionRecord-kind}
 use Rattle.marking.proofs.Squares.{between-below, between-above}
-use Rattle.summing.proofs.RecordsOut.{put-append, put-more, put-length, premises-length, keep-agree, keep-append, keep-one, keep-not, row-empty, row-more, rows-more, row-unmarked}
+use Rattle.summing.proofs.RecordsOut.{put-append, put-more, put-length, premises-length, keep-one, keep-not, row-empty, row-more, row-unmarked}
 
 -- ---- marks
 
@@ -154,12 +154,6 @@ module _ (arrays : Drawing) (n u v : ℕ) (less : u < v) (within : v < n) where
 
 -- ---- clauses one behind the other
 
--- a function over a list in two parts
-pub flatMap-append {ℓ κ} : {A : Type ℓ} {B : Type κ} (f : A → List B) (xs ys : List A) → flatMap f (xs ++ ys) ≡ flatMap f xs ++ flatMap f ys
-unfolding flatMap
-flatMap-append f [] ys = refl
-flatMap-append {B = B} f (x ∷ xs) ys = ap (λ (l : List B). f x ++ l) (flatMap-append f xs ys) ∙ sym (append-assoc (f x) (flatMap f xs) (flatMap f ys))
-
 module _ (arrays : Drawing) (n : ℕ) where
   -- the clauses of these pairs are written
   abbrev Put : (Pair → Type 0) → List Pair → ℕ → ℕ → List Bool → List ℕ → ℕ → List Bool → List ℕ → Type 0
@@ -207,9 +201,8 @@ module _ (arrays : Drawing) (n : ℕ) where
 
     -- no column yet
     pub row-clauses-none : u < n → Clear found₀ → RowClauses (u + 1) at found₀ out
-    unfolding keep
     row-clauses-none h c =
-        record { begun = omega arith; within = omega arith; put = clauses-as (PairMarked pairs) [] (keep (marked pairs) (rowPairs (u + 1) u)) 0 (u + 1) at found₀ out at found₀ out (ap (keep (marked pairs)) (row-empty u)) (omega arith) (clauses-none (PairMarked pairs) 0 at out found₀ c) }
+        record { begun = omega arith; within = omega arith; put = clauses-as (PairMarked pairs) [] (keep (marked pairs) (rowPairs (u + 1) u)) 0 (u + 1) at found₀ out at found₀ out (ap (keep (marked pairs)) (row-empty u) ∙ keep-empty (marked pairs)) (omega arith) (clauses-none (PairMarked pairs) 0 at out found₀ c) }
 
     module _ (v r : ℕ) (found : List Bool) (out₁ : List ℕ) (h : v < n) (x : RowClauses v r found out₁) where
       -- the marked pairs with one column more
@@ -242,13 +235,13 @@ module _ (arrays : Drawing) (n : ℕ) where
 
     -- no row yet
     pub rows-clauses-none : Clear found₀ → RowsClauses 0 at found₀ out
-    unfolding keep flatMap below
-    rows-clauses-none c = record { within = omega arith; put = clauses-none (PairMarked pairs) 0 at out found₀ c }
+    rows-clauses-none c =
+        record { within = omega arith; put = clauses-as (PairMarked pairs) [] (keep (marked pairs) (flatMap (rowPairs n) (below 0))) 0 (511 * 0) at found₀ out at found₀ out (ap (keep (marked pairs)) (flatMap-below-none (rowPairs n)) ∙ keep-empty (marked pairs)) (omega arith) (clauses-none (PairMarked pairs) 0 at out found₀ c) }
 
     module _ (u r : ℕ) (found : List Bool) (out₁ : List ℕ) (small : n ≤ 511) (h : u < n) (x : RowsClauses u r found out₁) where
       -- the marked pairs with one row more
       rows-kept : keep (marked pairs) (flatMap (rowPairs n) (below (u + 1))) ≡ keep (marked pairs) (flatMap (rowPairs n) (below u)) ++ keep (marked pairs) (rowPairs n u)
-      rows-kept = ap (keep (marked pairs)) (rows-more n u) ∙ keep-append (marked pairs) (flatMap (rowPairs n) (below u)) (rowPairs n u)
+      rows-kept = ap (keep (marked pairs)) (flatMap-below-more (rowPairs n) u) ∙ keep-append (marked pairs) (flatMap (rowPairs n) (below u)) (rowPairs n u)
 
       -- a row with marks
       pub rows-clauses-take : (r′ : ℕ) (found′ : List Bool) (out₂ : List ℕ) → Put (PairMarked pairs) (keep (marked pairs) (rowPairs n u)) 511 r found out₁ r′ found′ out₂ → RowsClauses (u + 1) r′ found′ out₂
@@ -263,10 +256,9 @@ module _ (arrays : Drawing) (n : ℕ) where
 
     -- all rows
     pub rows-clauses-all : (u r : ℕ) (found : List Bool) (out₁ : List ℕ) → n ≤ 511 → n ≤ u → RowsClauses u r found out₁ → Put (PairMarked pairs) (keep (marked pairs) (pairsBelow n)) 261121 at found₀ out r found out₁
-    unfolding pairsBelow
     rows-clauses-all u r found out₁ small h x =
         let e : n ≡ u = omega (arith, x .within) in
-        clauses-as (PairMarked pairs) (keep (marked pairs) (flatMap (rowPairs n) (below u))) (keep (marked pairs) (flatMap (rowPairs n) (below n))) (511 * u) 261121 at found₀ out r found out₁ (ap (λ (k : ℕ). keep (marked pairs) (flatMap (rowPairs n) (below k))) e) (omega (arith, x .within)) (x .put)
+        clauses-as (PairMarked pairs) (keep (marked pairs) (flatMap (rowPairs n) (below u))) (keep (marked pairs) (pairsBelow n)) (511 * u) 261121 at found₀ out r found out₁ (ap (keep (marked pairs)) (pairsBelow-rows n) ∙ ap (λ (k : ℕ). keep (marked pairs) (flatMap (rowPairs n) (below k))) e) (omega (arith, x .within)) (x .put)
 
     -- the same under other names
     pub rows-clauses-named : (u r r′ : ℕ) (found found′ : List Bool) (out₁ out₂ : List ℕ) → found′ ≡ found → out₂ ≡ out₁ → r′ ≡ r → RowsClauses u r found out₁ → RowsClauses u r′ found′ out₂

@@ -4,14 +4,13 @@ use mathlib.Core.List.{List, [], _∷_, _++_, map, flatMap, append-assoc, append
 use mathlib.Core.Logic.{_⊎_, inl, inr, ⊎-elim, _↔_}
 use mathlib.Core.Path.{_≡_, refl, sym, ap, ap₂, subst, _∙_}
 use Prim.Native.Nat.{ℕ, suc, _+_, _*_, _/_, _%_, _≤_, _<_}
-use native.Mathlib.Numerals.{add-one}
 use native.Mathlib.Omega.{arith}
 use borrow.Author.Tests.{leb-true, leb-false, le-leb, lt-leb, lt-ltb, le-ltb}
 use lib.Dec.{T, leb, ltb, ltb→lt, not-T}
 use lib.ListN.{length, getD, set, take, drop, length-append, length-drop, length-map, length-set}
 use lib.Seq.{sets-eq, length-take-le, take-at, drop-append-add, drop-drop, getD-set-same, getD-set-other}
-use Rattle.tables.specs.Words.{Pair, pair, below, keep, pairsBelow}
-use Rattle.tables.proofs.Words.{by-test, below-mem, same-test, keep-mem, failed}
+use Rattle.tables.specs.Words.{Pair, pair, below, keep}
+use Rattle.tables.proofs.Words.{by-test, below-mem, same-test, keep-mem, failed, keep-empty, keep-passes, keep-fails, keep-append, keep-none, keep-agree, below-more, flatMap-below-none, flatMap-below-more, pairsBelow-rows}
 use Rattle.clauses.specs.Records.{clauseRecord}
 use Rattle.summing.specs.Writing.{putRecord, putRecords, marked, rowPairs, PremisesOut, RowCleared, RowOut, AllOut}
 use Rattle.marking.specs.Marks.{PairWithin, placeOf, PairMarked, Marked, Covered}
@@ -82,47 +81,16 @@ puts-length at (r ∷ rs) out e = puts-length (at + 1) rs (putRecord at r out) (
 pub premises-length : (ps : List Pair) (at : ℕ) (out : List ℕ) (n : ℕ) (out′ : List ℕ) → PremisesOut ps at out n out′ → length out′ ≡ length out
 premises-length ps at out n out′ o = ap length (o .bytes) ∙ puts-length at (map (clauseRecord 1) ps) out (λ r m. let q = Memᴰ·of-map (clauseRecord 1) ps m in ap length (sym (q .2)) ∙ record-length 1 (q .0))
 
--- ---- the members of a list that pass a test
-
-module _ {ℓ} {A : Type ℓ} (p : A → Bool) where
-  -- of two lists, one after the other
-  pub keep-append : (xs ys : List A) → keep p (xs ++ ys) ≡ keep p xs ++ keep p ys
-  unfolding keep
-  keep-append [] ys = refl
-  keep-append (x ∷ xs) ys = go (p x) (keep-append xs ys)
-    where
-      go : (b : Bool) → keep p (xs ++ ys) ≡ keep p xs ++ keep p ys → cond b (x ∷ keep p (xs ++ ys)) (keep p (xs ++ ys)) ≡ cond b (x ∷ keep p xs) (keep p xs) ++ keep p ys
-      go true e = ap (λ (l : List A). x ∷ l) e
-      go false e = e
-
-  -- none passes
-  pub keep-none : (xs : List A) → ((x : A) → List·Memᴰ x xs → p x ≡ false) → keep p xs ≡ []
-  unfolding keep
-  keep-none [] h = refl
-  keep-none (x ∷ xs) h = ap (λ (b : Bool). cond b (x ∷ keep p xs) (keep p xs)) (h x (List·Memᴰ·head refl)) ∙ keep-none xs (λ y m. h y (List·Memᴰ·tail m))
-
-  -- one that passes
-  pub keep-one : (x : A) → p x ≡ true → keep p (x ∷ []) ≡ x ∷ []
-  unfolding keep
-  keep-one x e = ap (λ (b : Bool). cond b (x ∷ []) []) e
-
-  -- and one that does not
-  pub keep-not : (x : A) → p x ≡ false → keep p (x ∷ []) ≡ []
-  unfolding keep
-  keep-not x e = ap (λ (b : Bool). cond b (x ∷ []) []) e
-
--- tests that agree on a list keep the same
-pub keep-agree {ℓ} : {A : Type ℓ} (p q : A → Bool) (xs : List A) → ((x : A) → List·Memᴰ x xs → p x ≡ q x) → keep p xs ≡ keep q xs
-unfolding keep
-keep-agree p q [] h = refl
-keep-agree {A = A} p q (x ∷ xs) h = ap₂ (λ (b : Bool) (l : List A). cond b (x ∷ l) l) (h x (List·Memᴰ·head refl)) (keep-agree p q xs (λ y m. h y (List·Memᴰ·tail m)))
-
 -- ---- rows of pairs
 
--- one number more
-below-more : (n : ℕ) → below (n + 1) ≡ below n ++ (n ∷ [])
-unfolding below
-below-more n = ap below (add-one n)
+-- one pair, which is kept where it passes
+module _ {ℓ} {A : Type ℓ} (p : A → Bool) (x : A) where
+  pub keep-one : p x ≡ true → keep p (x ∷ []) ≡ x ∷ []
+  keep-one e = keep-passes p x [] e ∙ ap (λ (l : List A). x ∷ l) (keep-empty p)
+
+  -- and is not where it fails
+  pub keep-not : p x ≡ false → keep p (x ∷ []) ≡ []
+  keep-not e = keep-fails p x [] e ∙ keep-empty p
 
 -- the row has no pair up to its own number
 pub row-empty : (u : ℕ) → rowPairs (u + 1) u ≡ []
@@ -134,15 +102,6 @@ row-more u v h =
     ap (λ (l : List ℕ). map (pair u) (keep (ltb u) l)) (below-more v) ∙
     ap (map (pair u)) (keep-append (ltb u) (below v) (v ∷ []) ∙ ap (λ (l : List ℕ). keep (ltb u) (below v) ++ l) (keep-one (ltb u) v (lt-ltb u v h))) ∙
     map-append (pair u) (keep (ltb u) (below v)) (v ∷ [])
-
--- the rows of all numbers below n, one row more
-pub rows-more : (n u : ℕ) → flatMap (rowPairs n) (below (u + 1)) ≡ flatMap (rowPairs n) (below u) ++ rowPairs n u
-unfolding flatMap
-rows-more n u = ap (flatMap (rowPairs n)) (below-more u) ∙ flatMap-snoc (below u)
-  where
-    flatMap-snoc : (xs : List ℕ) → flatMap (rowPairs n) (xs ++ (u ∷ [])) ≡ flatMap (rowPairs n) xs ++ rowPairs n u
-    flatMap-snoc [] = append-nil (rowPairs n u)
-    flatMap-snoc (x ∷ xs) = ap (λ (l : List Pair). rowPairs n x ++ l) (flatMap-snoc xs) ∙ sym (append-assoc (rowPairs n x) (flatMap (rowPairs n) xs) (rowPairs n u))
 
 -- a pair of the row
 row-mem : (n u : ℕ) (p : Pair) → List·Memᴰ p (rowPairs n u) → (k : ℕ) × (u < k) × (k < n) × (p ≡ pair u k)
@@ -185,9 +144,9 @@ pub record RowTo (u n at : ℕ) (found₀ : List Bool) (out₀ : List ℕ) (v r 
 module _ (u n at : ℕ) (found₀ : List Bool) (out₀ : List ℕ) (small : n ≤ 511) where
   -- nothing yet
   pub row-none : u < n → RowTo u n at found₀ out₀ (u + 1) at found₀ out₀
-  unfolding putRecords keep
+  unfolding putRecords
   row-none h =
-      let none : keep (marked found₀) (rowPairs (u + 1) u) ≡ [] = ap (keep (marked found₀)) (row-empty u) in
+      let none : keep (marked found₀) (rowPairs (u + 1) u) ≡ [] = ap (keep (marked found₀)) (row-empty u) ∙ keep-empty (marked found₀) in
       record {
         begun = omega arith;
         within = omega arith;
@@ -271,12 +230,13 @@ pub record RowsTo (n at : ℕ) (found₀ : List Bool) (out₀ : List ℕ) (u r :
 module _ (n at : ℕ) (found₀ : List Bool) (out₀ : List ℕ) (small : n ≤ 511) where
   -- no row yet
   pub rows-none : RowsTo n at found₀ out₀ 0 at found₀ out₀
-  unfolding putRecords keep flatMap below
+  unfolding putRecords
   rows-none =
+      let none : keep (marked found₀) (flatMap (rowPairs n) (below 0)) ≡ [] = ap (keep (marked found₀)) (flatMap-below-none (rowPairs n)) ∙ keep-empty (marked found₀) in
       record {
         within = omega arith;
         few = omega arith;
-        premises = record { count = omega arith; bytes = refl };
+        premises = subst (λ (ps : List Pair). PremisesOut ps at out₀ at out₀) (sym none) (record { count = omega arith; bytes = refl });
         sized = refl;
         left-over = λ p w. (λ m. (m, inl (omega arith)), λ m. m .0);
       }
@@ -295,7 +255,7 @@ module _ (n at : ℕ) (found₀ : List Bool) (out₀ : List ℕ) (small : n ≤ 
     -- the marked pairs with one row more
     rows-kept : keep (marked found₀) (flatMap (rowPairs n) (below (u + 1))) ≡ keep (marked found₀) (flatMap (rowPairs n) (below u)) ++ keep (marked found) (rowPairs n u)
     rows-kept =
-        ap (keep (marked found₀)) (rows-more n u) ∙ keep-append (marked found₀) (flatMap (rowPairs n) (below u)) (rowPairs n u) ∙
+        ap (keep (marked found₀)) (flatMap-below-more (rowPairs n) u) ∙ keep-append (marked found₀) (flatMap (rowPairs n) (below u)) (rowPairs n u) ∙
         ap (λ (l : List Pair). keep (marked found₀) (flatMap (rowPairs n) (below u)) ++ l) (sym rows-same)
 
     -- a row with marks is written
@@ -324,12 +284,11 @@ module _ (n at : ℕ) (found₀ : List Bool) (out₀ : List ℕ) (small : n ≤ 
 
   -- all rows
   pub rows-all : (u r : ℕ) (found : List Bool) (out : List ℕ) → n ≤ u → RowsTo n at found₀ out₀ u r found out → AllOut n at found₀ out₀ r found out
-  unfolding pairsBelow
   rows-all u r found out h x =
       let e : u ≡ n = omega (arith, x .within) in
       record {
         few = omega (arith, x .few, x .within);
-        premises = subst (λ (w : ℕ). PremisesOut (keep (marked found₀) (flatMap (rowPairs n) (below w))) at out₀ r out) e (x .premises);
+        premises = subst (λ (ps : List Pair). PremisesOut (keep (marked found₀) ps) at out₀ r out) (ap (λ (w : ℕ). flatMap (rowPairs n) (below w)) e ∙ sym (pairsBelow-rows n)) (x .premises);
         sized = x .sized;
         left-over = λ p w. let a = x .left-over p w in (λ m. let k = a .0 m in (k .0, ⊎-elim (λ l. omega (arith, l, e, w .0)) (λ l. l) (k .1)), λ m. a .1 (m .0, inr (m .1)));
       }

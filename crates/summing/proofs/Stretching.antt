@@ -1,6 +1,6 @@
 -- The outer and the middle stretches of a trail, where the code cuts it.
-use mathlib.Core.Bool.{Bool, true, false, cond, not, _||_}
-use mathlib.Core.List.{List, [], _∷_}
+use mathlib.Core.Bool.{Bool, true, false, cond, not}
+use mathlib.Core.List.{List, [], _∷_, List·Memᴰ·head, List·Memᴰ·tail}
 use mathlib.Core.Logic.{⊎-elim}
 use mathlib.Core.Path.{_≡_, refl, sym, ap, subst, _∙_}
 use Prim.Native.Nat.{ℕ, suc, _+_, _-_, _≤_, _<_}
@@ -9,7 +9,7 @@ use native.Mathlib.Omega.{arith}
 use lib.Dec.{T}
 use lib.ListN.{getD}
 use Rattle.tables.specs.Words.{any}
-use Rattle.tables.proofs.Words.{below-or-is, passed, failed, or-left, or-right}
+use Rattle.tables.proofs.Words.{below-or-is, passed, failed, any-some, some-any, any-empty, any-fails}
 use Rattle.closure.specs.Graph.{Path}
 use Rattle.marking.specs.Marks.{Trailed, done, step}
 use Rattle.clauses.specs.Reading.{Stretches, fromFirst, stretches}
@@ -24,18 +24,16 @@ module _ (inB : ℕ → Bool) (inb : List Bool) (stops edges : List ℕ) (hops :
 
   -- some stop further on is in B
   trail-some : {i : ℕ} {π : Path} → Trailed inb stops edges hops i π → (k : ℕ) → i < k → k ≤ hops → T (At k) → T (any (λ g. inB (g .to)) π)
-  unfolding any
   trail-some (done e) k l h t = absurd (omega (arith, e))
   trail-some {i} (step {h = g} {π = π} a b c d x) k l h t =
-      ⊎-elim (λ (q : suc i ≡ k). or-left (inB (g .to)) (any (λ y. inB (y .to)) π) (subst (λ (n : ℕ). T (inB n)) (ap (λ (n : ℕ). getD stops n 0) (sym q) ∙ b) t))
-      (λ (m : suc i < k). or-right (inB (g .to)) (any (λ y. inB (y .to)) π) (trail-some x k m h t)) (eq-or-lt-of-le l)
+      ⊎-elim (λ (q : suc i ≡ k). some-any (λ y. inB (y .to)) (List·Memᴰ·head refl) (subst (λ (n : ℕ). T (inB n)) (ap (λ (n : ℕ). getD stops n 0) (sym q) ∙ b) t))
+      (λ (m : suc i < k). let r = any-some (λ y. inB (y .to)) π (trail-some x k m h t) in some-any (λ y. inB (y .to)) (List·Memᴰ·tail (r .1)) (r .2)) (eq-or-lt-of-le l)
 
   -- no stop further on is
   trail-none : {i : ℕ} {π : Path} → Trailed inb stops edges hops i π → ((k : ℕ) → i < k → k ≤ hops → T (not (At k))) → any (λ g. inB (g .to)) π ≡ false
-  unfolding any
-  trail-none (done e) f = refl
+  trail-none (done e) f = any-empty (λ g. inB (g .to))
   trail-none {i} (step {h = g} {π = π} a b c d x) f =
-      ap (λ (y : Bool). y || any (λ y. inB (y .to)) π) (failed (inB (g .to)) (subst (λ (n : ℕ). T (not (inB n))) b (f (suc i) (omega arith) (trailed-forward inb stops edges hops x)))) ∙
+      any-fails (λ y. inB (y .to)) g π (failed (inB (g .to)) (subst (λ (n : ℕ). T (not (inB n))) b (f (suc i) (omega arith) (trailed-forward inb stops edges hops x)))) ∙
       trail-none x (λ k l h. f k (omega (arith, l)) h)
 
   -- from a stop in B, or from the last stop, the middle stretch ends at r

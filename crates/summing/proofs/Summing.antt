@@ -14,7 +14,7 @@ use Rattle.tables.specs.LiteralTable.{Literal}
 use Rattle.tables.specs.declared.Side.{Side}
 use Rattle.tables.specs.declared.Side.the-variants.{A, B}
 use Rattle.tables.specs.Colours.{colourable}
-use Rattle.tables.proofs.Words.{keep-mem, mem-keep, pairsBelow-mem, passed, failed, passes, fails}
+use Rattle.tables.proofs.Words.{keep-mem, mem-keep, pairsBelow-mem, passed, failed, passes, fails, keep-empty, keep-passes, keep-fails, keep-none, flatMap-append}
 use Rattle.closure.specs.Graph.{Graph, Path, joined, path}
 use Rattle.graphs.specs.declared.paths.Trail.{Trail}
 use Rattle.graphs.specs.Trails.{Joining, TrailOf}
@@ -38,9 +38,9 @@ use Rattle.clauses.proofs.Stretches.{Divided, stretches-divided, before-is, mid
 use Rattle.clauses.proofs.Interpolation.{lastClause, ReadingA, of-middle, of-outer, of-last, readA-mem, mem-readA}
 use Rattle.clauses.proofs.Order.{concludes-eq, eq-concludes, ascending-agree}
 use Rattle.clauses.proofs.OneClause.{OfPath, FromPaths, from-paths-premises, read-from-paths, listed-of-path, walk-enough, premise-within, premisesIn-mean, outerPremises-mean}
-use Rattle.summing.proofs.ClausesOut.{none-marked, flatMap-append, records-append}
+use Rattle.summing.proofs.ClausesOut.{none-marked, records-append}
 use Rattle.marking.proofs.Owing.{PathRead, path-read, path-rows, joins}
-use Rattle.summing.proofs.RecordsOut.{keep-none, puts-fit}
+use Rattle.summing.proofs.RecordsOut.{puts-fit}
 use Rattle.clauses.proofs.Records.{clauseBytes, clauseRecords-eight}
 use Rattle.marking.proofs.Trails.{trailed-forward}
 use Rattle.summing.proofs.Stretching.{stretches-cut}
@@ -62,13 +62,13 @@ flatMap-twice {Z = Z} f g (x ∷ xs) = flatMap-append f (g x) (flatMap g xs) ∙
 
 -- what a function gives on the members that pass a test
 flatMap-keep {ℓ κ} : {X : Type ℓ} {Y : Type κ} (p : X → Bool) (f g : X → List Y) (xs : List X) → ((x : X) → List·Memᴰ x xs → ((p x ≡ true) × (g x ≡ f x)) ⊎ ((p x ≡ false) × (g x ≡ []))) → flatMap g xs ≡ flatMap f (keep p xs)
-unfolding flatMap keep
-flatMap-keep p f g [] h = refl
+unfolding flatMap
+flatMap-keep p f g [] h = ap (flatMap f) (sym (keep-empty p))
 flatMap-keep {X = X} {Y = Y} p f g (x ∷ xs) h = go (h x (List·Memᴰ·head refl)) (flatMap-keep p f g xs (λ y m. h y (List·Memᴰ·tail m)))
   where
-    go : ((p x ≡ true) × (g x ≡ f x)) ⊎ ((p x ≡ false) × (g x ≡ [])) → flatMap g xs ≡ flatMap f (keep p xs) → g x ++ flatMap g xs ≡ flatMap f (cond (p x) (x ∷ keep p xs) (keep p xs))
-    go (inl a) e = ap₂ (λ (l k : List Y). l ++ k) (a .1) e ∙ ap (λ (b : Bool). flatMap f (cond b (x ∷ keep p xs) (keep p xs))) (sym (a .0))
-    go (inr a) e = ap₂ (λ (l k : List Y). l ++ k) (a .1) e ∙ ap (λ (b : Bool). flatMap f (cond b (x ∷ keep p xs) (keep p xs))) (sym (a .0))
+    go : ((p x ≡ true) × (g x ≡ f x)) ⊎ ((p x ≡ false) × (g x ≡ [])) → flatMap g xs ≡ flatMap f (keep p xs) → g x ++ flatMap g xs ≡ flatMap f (keep p (x ∷ xs))
+    go (inl a) e = ap₂ (λ (l k : List Y). l ++ k) (a .1) e ∙ ap (flatMap f) (sym (keep-passes p x xs (a .0)))
+    go (inr a) e = ap₂ (λ (l k : List Y). l ++ k) (a .1) e ∙ ap (flatMap f) (sym (keep-fails p x xs (a .0)))
 
 -- ---- the records of clauses that come from paths
 

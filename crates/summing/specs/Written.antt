@@ -27,12 +27,11 @@ use Rattle.summing.specs.Writing.{putRecords, marked}
 
 -- the clause that concludes p, its premises in ascending order
 unfoldable pub clauseOf : ℕ → List Term → Graph → Pair → Clause
-unfolding ascending premises
 clauseOf n table G p = record { premises = ascending n (premises (length G) table (path G (p .left) (p .right))); conclusion = equals p }
 
 -- its records
 unfoldable pub clauseOut : ℕ → List Term → Graph → Pair → List (List ℕ)
-unfolding clauseOf recordsOf
+unfolding clauseOf
 clauseOut n table G p = recordsOf (clauseOf n table G p)
 
 -- records are written from number `at` on, and the next number comes back
