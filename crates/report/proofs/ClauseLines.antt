@@ -7,10 +7,11 @@ use native.Mathlib.Numerals.{add-one}
 use native.Mathlib.Omega.{arith}
 use lib.ListN.{drop}
 use lib.Seq.{getD-take, getD-drop}
-use borrow.Author.Tests.{eq-eqb, ne-eqb}
 use Rattle.tables.specs.Words.{below, Pair}
 use Rattle.tables.specs.Bytes.{byteAt, wordAt, recordAt}
+use Rattle.tables.proofs.Words.{below-none, below-more}
 use Rattle.clauses.specs.ReadBack.{pairRead, conclusionRead, clausesAfter, clausesRead}
+use Rattle.clauses.proofs.Records.{equal-read, different-read, false-read, after-last, after-premise, after-conclusion, clauses-first}
 use Rattle.report.specs.Page.{Page, puts}
 use Rattle.report.specs.Text.{ascii, pairText, andPair, premisesText, conclusionText, clauseLine}
 use Rattle.report.specs.Records.{upFrom, pairsFrom, clauseOf}
@@ -33,22 +34,20 @@ kind-at bs j kind h = byte-in-record bs j 0 (omega arith) ∙ ap (byteAt bs) (ad
 
 -- kind 2 concludes an equality
 pub conclusion-equal : (bs : List ℕ) (j kind : ℕ) → kind ≡ byteAt bs (8 * j) → kind ≡ 2 → conclusionText (conclusionRead (recordAt 8 bs j)) ≡ pairText (ascii "=") (pairRead (recordAt 8 bs j))
-unfolding conclusionText conclusionRead
-conclusion-equal bs j kind h e = simp (eq-eqb (byteAt (recordAt 8 bs j) 0) 2 (kind-at bs j kind h ∙ e))
+unfolding conclusionText
+conclusion-equal bs j kind h e = ap conclusionText (equal-read (recordAt 8 bs j) (kind-at bs j kind h ∙ e))
 
 -- kind 3 concludes a disequality
 pub conclusion-different : (bs : List ℕ) (j kind : ℕ) → kind ≡ byteAt bs (8 * j) → kind ≡ 3 → conclusionText (conclusionRead (recordAt 8 bs j)) ≡ pairText (ascii "!=") (pairRead (recordAt 8 bs j))
-unfolding conclusionText conclusionRead
-conclusion-different bs j kind h e =
-    let three : byteAt (recordAt 8 bs j) 0 ≡ 3 = kind-at bs j kind h ∙ e in
-    simp (ne-eqb (byteAt (recordAt 8 bs j) 0) 2 (λ two. omega arith), eq-eqb (byteAt (recordAt 8 bs j) 0) 3 three)
+unfolding conclusionText
+conclusion-different bs j kind h e = ap conclusionText (different-read (recordAt 8 bs j) (kind-at bs j kind h ∙ e))
 
 -- any other kind concludes false
 pub conclusion-false : (bs : List ℕ) (j kind : ℕ) → kind ≡ byteAt bs (8 * j) → (kind ≡ 2 → ⊥) → (kind ≡ 3 → ⊥) → conclusionText (conclusionRead (recordAt 8 bs j)) ≡ ascii "false"
-unfolding conclusionText conclusionRead
+unfolding conclusionText
 conclusion-false bs j kind h not-two not-three =
     let same = sym (kind-at bs j kind h) in
-    simp (ne-eqb (byteAt (recordAt 8 bs j) 0) 2 (λ e. not-two (same ∙ e)), ne-eqb (byteAt (recordAt 8 bs j) 0) 3 (λ e. not-three (same ∙ e)))
+    ap conclusionText (false-read (recordAt 8 bs j) (λ e. not-two (same ∙ e)) (λ e. not-three (same ∙ e)))
 
 -- ---- numbers from one on
 
@@ -60,9 +59,9 @@ upFrom-last s (suc n) = ap (λ (ks : List ℕ). s ∷ ks) (upFrom-last (suc s) n
 
 -- the numbers below n are those from 0 on
 below-upFrom : (n : ℕ) → below n ≡ upFrom 0 n
-unfolding below upFrom
-below-upFrom zero = refl
-below-upFrom (suc n) = ap₂ (λ (ks : List ℕ) (k : ℕ). ks ++ (k ∷ [])) (below-upFrom n) (sym (zero-add n)) ∙ sym (upFrom-last 0 n)
+unfolding upFrom
+below-upFrom zero = below-none
+below-upFrom (suc n) = ap below (sym (add-one n)) ∙ below-more n ∙ ap₂ (λ (ks : List ℕ) (k : ℕ). ks ++ (k ∷ [])) (below-upFrom n) (sym (zero-add n)) ∙ sym (upFrom-last 0 n)
 
 -- from j on, the first one and those behind it
 upFrom-first : (j k : ℕ) → j < k → upFrom j (k - j) ≡ j ∷ upFrom (j + 1) (k - (j + 1))
@@ -139,16 +138,16 @@ left bs s i k = flatMap clauseLine (clausesAfter (pairsFrom bs s (i - s)) (map (
 
 -- at first all lines are left
 pub left-all : (bs : List ℕ) (k : ℕ) → left bs 0 0 k ≡ flatMap clauseLine (clausesRead k bs)
-unfolding left pairsFrom upFrom clausesRead
-left-all bs k = ap (λ (ks : List ℕ). flatMap clauseLine (clausesAfter [] (map (recordAt 8 bs) ks))) (sym (below-upFrom k ∙ ap (upFrom 0) whole))
+unfolding left pairsFrom upFrom
+left-all bs k = ap (λ (ks : List ℕ). flatMap clauseLine (clausesAfter [] (map (recordAt 8 bs) ks))) (sym (below-upFrom k ∙ ap (upFrom 0) whole)) ∙ ap (flatMap clauseLine) (sym (clauses-first k bs))
   where
     whole : k ≡ k - 0
     whole = omega arith
 
 -- behind the last record none is
 pub left-none : (bs : List ℕ) (s i k : ℕ) → k ≤ i → left bs s i k ≡ []
-unfolding left clausesAfter upFrom flatMap
-left-none bs s i k h = ap (λ (n : ℕ). flatMap clauseLine (clausesAfter (pairsFrom bs s (i - s)) (map (recordAt 8 bs) (upFrom i n)))) none
+unfolding left upFrom flatMap
+left-none bs s i k h = ap (λ (n : ℕ). flatMap clauseLine (clausesAfter (pairsFrom bs s (i - s)) (map (recordAt 8 bs) (upFrom i n)))) none ∙ ap (flatMap clauseLine) (after-last (pairsFrom bs s (i - s)))
   where
     none : k - i ≡ 0
     none = omega arith
@@ -156,16 +155,6 @@ left-none bs s i k h = ap (λ (n : ℕ). flatMap clauseLine (clausesAfter (pairs
 -- the clauses at record i, which is taken off the records
 at-record : (bs : List ℕ) (ps : List Pair) (i k : ℕ) → i < k → clausesAfter ps (map (recordAt 8 bs) (upFrom i (k - i))) ≡ clausesAfter ps (recordAt 8 bs i ∷ map (recordAt 8 bs) (upFrom (i + 1) (k - (i + 1))))
 at-record bs ps i k h = ap (λ (ks : List ℕ). clausesAfter ps (map (recordAt 8 bs) ks)) (upFrom-first i k h)
-
--- a premise adds to the open clause
-after-premise : (ps : List Pair) (r : List ℕ) (rs : List (List ℕ)) → byteAt r 0 ≡ 1 → clausesAfter ps (r ∷ rs) ≡ clausesAfter (ps ++ (pairRead r ∷ [])) rs
-unfolding clausesAfter
-after-premise ps r rs e = simp (eq-eqb (byteAt r 0) 1 e)
-
--- any other record ends it
-after-conclusion : (ps : List Pair) (r : List ℕ) (rs : List (List ℕ)) → (byteAt r 0 ≡ 1 → ⊥) → clausesAfter ps (r ∷ rs) ≡ record { premises = ps; conclusion = conclusionRead r } ∷ clausesAfter [] rs
-unfolding clausesAfter
-after-conclusion ps r rs e = simp (ne-eqb (byteAt r 0) 1 e)
 
 -- so the lines that are left at a premise are those left behind it,
 pub left-premise : (bs : List ℕ) (s i k kind : ℕ) → kind ≡ byteAt bs (8 * i) → kind ≡ 1 → s ≤ i → i < k → left bs s i k ≡ left bs s (i + 1) k

@@ -1,6 +1,6 @@
 -- Laws of the page: texts one behind the other are one text, and a text written from the start is shown.
 use mathlib.Core.Bool.{cond}
-use mathlib.Core.List.{List, [], _∷_, _++_, flatMap, append-assoc, append-nil}
+use mathlib.Core.List.{List, [], _∷_, _++_, flatMap}
 use mathlib.Core.Logic.{⊎-elim}
 use mathlib.Core.Path.{_≡_, refl, sym, ap, ap₂, _∙_}
 use Prim.Native.Nat.{ℕ, suc, _+_, _≤_, _<_}
@@ -12,7 +12,7 @@ use lib.ListN.{length, set, take, drop, getD}
 use lib.Seq.{take-length, take-suc, take-all, set-out}
 use borrow.Author.Tests.{lt-ltb, le-ltb}
 use Rattle.tables.specs.Words.{below}
-use Rattle.tables.proofs.Words.{below-or-not}
+use Rattle.tables.proofs.Words.{below-or-not, flatMap-below-none, flatMap-below-more}
 use Rattle.report.specs.Page.{Page, page, put, puts, shown}
 
 -- a text behind a text
@@ -82,23 +82,14 @@ puts-shown (b ∷ bs) (x ∷ xs) =
     first : (n : ℕ) → cond (ltb 0 (suc n)) (0 + 1) 0 ≡ 1
     first n = simp (lt-ltb 0 (suc n) (omega arith))
 
--- the texts of the numbers below i + 1 are those below i, and that of i
-texts-next : (f : ℕ → List ℕ) (i : ℕ) → flatMap f (below (i + 1)) ≡ flatMap f (below i) ++ f i
-unfolding below flatMap
-texts-next f i = ap (λ (k : ℕ). flatMap f (below k)) (add-one i) ∙ last (below i)
-  where
-    last : (ks : List ℕ) → flatMap f (ks ++ (i ∷ [])) ≡ flatMap f ks ++ f i
-    last [] = append-nil (f i)
-    last (k ∷ ks) = ap (λ (bs : List ℕ). f k ++ bs) (last ks) ∙ sym (append-assoc (f k) (flatMap f ks) (f i))
-
 -- before the first of many texts nothing is written
 pub no-texts : (p : Page) (f : ℕ → List ℕ) → p ≡ puts p (flatMap f (below 0))
-unfolding puts below flatMap
-no-texts p f = refl
+unfolding puts
+no-texts p f = sym (ap (puts p) (flatMap-below-none f))
 
 -- one text more
 pub one-text-more : (p : Page) (f : ℕ → List ℕ) (i : ℕ) {q r : Page} → q ≡ puts p (flatMap f (below i)) → r ≡ puts q (f i) → r ≡ puts p (flatMap f (below (i + 1)))
-one-text-more p f i h k = rw (texts-next f i) (and-then p (flatMap f (below i)) (f i) h k)
+one-text-more p f i h k = rw (flatMap-below-more f i) (and-then p (flatMap f (below i)) (f i) h k)
 
 -- behind the last there are all
 pub all-texts : (p : Page) (f : ℕ → List ℕ) (i n : ℕ) {q : Page} → q ≡ puts p (flatMap f (below i)) → i ≤ n → n ≤ i → q ≡ puts p (flatMap f (below n))

@@ -8,10 +8,13 @@ use native.Mathlib.Omega.{arith}
 use lib.Dec.{eqb}
 use lib.ListN.{length, drop, length-append, length-map, length-drop, List·getD-eq-default}
 use lib.Seq.{take-all}
+use borrow.Author.Tests.{eqb-true, eqb-false}
 use Rattle.tables.specs.Words.{below, Pair}
 use Rattle.tables.specs.Bytes.{AllBytes, byteAt, wordAt, recordAt, countOf}
 use Rattle.tables.proofs.Words.{by-test, below-or-not, getD-mem, below-mem, length-below}
-use Rattle.clauses.specs.ReadBack.{pairRead, conclusionRead, clausesAfter, clausesRead}
+use Rattle.clauses.specs.Clauses.{Clause}
+use Rattle.clauses.specs.ReadBack.{pairRead, conclusionRead, clausesAfter}
+use Rattle.clauses.proofs.Records.{equal-read, different-read, false-read, after-last, after-premise, after-conclusion, clauses-first}
 use Rattle.demands.specs.declared.Answer.{Answer}
 use Rattle.demands.specs.declared.Answer.the-variants.{Consistent, Inconsistent, Refused}
 use Rattle.report.specs.Page.{page, shown}
@@ -112,10 +115,10 @@ premises-few (p ∷ ps) h =
 
 -- what a record concludes
 conclusion-few : (r : List ℕ) → Short (pairRead r) → length (conclusionText (conclusionRead r)) ≤ 8
-unfolding conclusionText conclusionRead
+unfolding conclusionText
 conclusion-few r h =
-    by-test (eqb (byteAt r 0) 2) (λ e. rw e (omega (arith, pair-few (ascii "=") (pairRead r) h)))
-    (λ e. rw e (by-test (eqb (byteAt r 0) 3) (λ d. rw d (omega (arith, pair-few (ascii "!=") (pairRead r) h))) (λ d. rw d (omega arith))))
+    by-test (eqb (byteAt r 0) 2) (λ e. rw (equal-read r (eqb-true (byteAt r 0) 2 e)) (omega (arith, pair-few (ascii "=") (pairRead r) h)))
+    (λ e. by-test (eqb (byteAt r 0) 3) (λ d. rw (different-read r (eqb-true (byteAt r 0) 3 d)) (omega (arith, pair-few (ascii "!=") (pairRead r) h))) (λ d. rw (false-read r (eqb-false (byteAt r 0) 2 e) (eqb-false (byteAt r 0) 3 d)) (omega arith)))
 
 -- a clause's line
 line-few : (ps : List Pair) (r : List ℕ) → ((p : Pair) → List·Memᴰ p ps → Short p) → Short (pairRead r) → length (clauseLine (record { premises = ps; conclusion = conclusionRead r })) ≤ 10 * length ps + 12
@@ -124,12 +127,12 @@ line-few ps r h k = simp length-append (omega (arith, premises-few ps h, conclus
 
 -- all lines behind some premises
 lines-few : (ps : List Pair) (rs : List (List ℕ)) → ((p : Pair) → List·Memᴰ p ps → Short p) → ((r : List ℕ) → List·Memᴰ r rs → Short (pairRead r)) → length (flatMap clauseLine (clausesAfter ps rs)) ≤ 10 * length ps + 13 * length rs
-unfolding flatMap clausesAfter
-lines-few ps [] h k = omega arith
+unfolding flatMap
+lines-few ps [] h k = rw (after-last ps) (omega arith)
 lines-few ps (r ∷ rs) h k =
     by-test (eqb (byteAt r 0) 1)
-    (λ e. rw e (omega (arith, length-append ps (pairRead r ∷ []), lines-few (ps ++ (pairRead r ∷ [])) rs (λ p m. ⊎-elim (h p) (λ w. subst Short (sym (List·Memᴰ·eq-of-singleton w)) (k r (List·Memᴰ·head refl))) (List·Memᴰ·append-cases ps m)) (λ q m. k q (List·Memᴰ·tail m)))))
-    (λ e. rw e (omega (arith, length-append (clauseLine (record { premises = ps; conclusion = conclusionRead r })) (flatMap clauseLine (clausesAfter [] rs)), line-few ps r h (k r (List·Memᴰ·head refl)), lines-few [] rs (λ p m. absurd (List·Memᴰ·not-nil m)) (λ q m. k q (List·Memᴰ·tail m)))))
+    (λ e. rw (after-premise ps r rs (eqb-true (byteAt r 0) 1 e)) (omega (arith, length-append ps (pairRead r ∷ []), lines-few (ps ++ (pairRead r ∷ [])) rs (λ p m. ⊎-elim (h p) (λ w. subst Short (sym (List·Memᴰ·eq-of-singleton w)) (k r (List·Memᴰ·head refl))) (List·Memᴰ·append-cases ps m)) (λ q m. k q (List·Memᴰ·tail m)))))
+    (λ e. rw (after-conclusion ps r rs (eqb-false (byteAt r 0) 1 e)) (omega (arith, length-append (clauseLine (record { premises = ps; conclusion = conclusionRead r })) (flatMap clauseLine (clausesAfter [] rs)), line-few ps r h (k r (List·Memᴰ·head refl)), lines-few [] rs (λ p m. absurd (List·Memᴰ·not-nil m)) (λ q m. k q (List·Memᴰ·tail m)))))
 
 -- ---- the whole text
 
@@ -153,13 +156,14 @@ module _ (partition added clauses : List ℕ) (given : ℕ) where
 
   -- of an inconsistent one
   inconsistent-few : (d a k : ℕ) → AllBytes added → length clauses ≤ 32768 → ((j : ℕ) → j < min k (countOf 8 clauses) → Short (pairRead (recordAt 8 clauses j))) → (d < 2 ^ 64) × (a < 2 ^ 64) × (k < 2 ^ 64) → length (inconsistentText d a k given added clauses) ≤ 65536
-  unfolding inconsistentText headText endText clausesRead
+  unfolding inconsistentText headText endText
   inconsistent-few d a k b l short n =
       let terms = below-few 38 (min a 255) (addedLine (min given 256) added) (λ i h. added-few (min given 256) added b i (omega arith) (omega arith)) in
       let records = map (recordAt 8 clauses) (below (min k (countOf 8 clauses))) in
       let small : (r : List ℕ) → List·Memᴰ r records → Short (pairRead r) = λ r m. let w = Memᴰ·of-map (recordAt 8 clauses) (below (min k (countOf 8 clauses))) m in subst (λ (x : List ℕ). Short (pairRead x)) (w .2) (short (w .0) (below-mem (min k (countOf 8 clauses)) (w .1))) in
       let count : length records ≡ min k (countOf 8 clauses) = length-map (below (min k (countOf 8 clauses))) (recordAt 8 clauses) ∙ length-below (min k (countOf 8 clauses)) in
-      simp length-append (omega (arith, terms, lines-few [] records (λ p m. absurd (List·Memᴰ·not-nil m)) small, twenty d (n .0), twenty a (n .1), twenty k (n .2)))
+      let lines = subst (λ (cs : List Clause). length (flatMap clauseLine cs) ≤ 0 + 13 * length records) (sym (clauses-first (min k (countOf 8 clauses)) clauses)) (lines-few [] records (λ p m. absurd (List·Memᴰ·not-nil m)) small) in
+      simp length-append (omega (arith, terms, lines, twenty d (n .0), twenty a (n .1), twenty k (n .2)))
 
   -- what eqsplit prints fits in 65,536 bytes: it lends 32,768 bytes for the clauses, and the term numbers in their records are below 1000
   pub text-fits : (answer : Answer) → Carries answer → AllBytes partition → AllBytes added → length clauses ≤ 32768 → ((j : ℕ) → j < recordsShown answer clauses → Short (pairRead (recordAt 8 clauses j))) → length (reportOf answer given partition added clauses) ≤ 65536

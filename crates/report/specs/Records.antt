@@ -13,10 +13,9 @@ upFrom from (suc n) = from ∷ upFrom (suc from) n
 
 -- the pairs of so many clause records from one on
 unfoldable pub pairsFrom : List ℕ → ℕ → ℕ → List Pair
-unfolding pairRead
 pairsFrom clauses from n = map (λ j. pairRead (recordAt 8 clauses j)) (upFrom from n)
 
 -- the clause whose premises start at a record and whose conclusion is at another
 unfoldable pub clauseOf : List ℕ → ℕ → ℕ → Clause
-unfolding pairsFrom conclusionRead
+unfolding pairsFrom
 clauseOf clauses start conclusion = record { premises = pairsFrom clauses start (conclusion - start); conclusion = conclusionRead (recordAt 8 clauses conclusion) }

@@ -1,7 +1,8 @@
 -- `report::horn::pair` meets its contract.
 use mathlib.Core.Path.{ap, sym, _∙_}
 use native.Mathlib.Omega.{arith}
-use Rattle.clauses.specs.ReadBack.{pairRead}
+use Rattle.tables.specs.Bytes.{recordAt}
+use Rattle.clauses.proofs.Records.{pair-words}
 use Rattle.report.specs.Text.{pairText, decimal}
 use Rattle.report.proofs.Pages.{and-then, as-text}
 use Rattle.report.proofs.ClauseLines.{word-in-record}
@@ -40,12 +41,12 @@ same-length : tie.Need-same-length
 same-length c = search needs
 
 returns : tie.Need-returns
-unfolding pairText pairRead
+unfolding pairText
 returns c =
     let given = c .before .before .before .before .before .before .before .before .before .before .before .before .before .before .before .before .before .args in
     let left = ap decimal (word-in-record (given .clauses .now) (given .j) 2 (omega arith) ∙ sym (c .before .before .before .before .before .before .before .before .before .before .before .before .before .word .ensures)) in
     let right = ap decimal (word-in-record (given .clauses .now) (given .j) 4 (omega arith) ∙ sym (c .before .before .before .before .before .before .before .before .before .before .before .before .word2 .ensures)) in
-    and-then _ _ _ (and-then _ _ _ (as-text _ (c .before .before .before .before .before .before .before .before .before .before .number .ensures) left) (c .before .before .before .before .before .before .text .ensures)) (as-text _ (c .before .before .number2 .ensures) right)
+    as-text _ (and-then _ _ _ (and-then _ _ _ (as-text _ (c .before .before .before .before .before .before .before .before .before .before .number .ensures) left) (c .before .before .before .before .before .before .text .ensures)) (as-text _ (c .before .before .number2 .ensures) right)) (ap (pairText _) (pair-words (recordAt 8 (given .clauses .now) (given .j))))
 
 pub pair-spec : {M : Type 1} → statement M
 pair-spec =
