@@ -1,41 +1,25 @@
 -- The records of the added terms, by the arrays of the run's last state.
-use mathlib.Core.List.{List, [], _∷_, _++_, map, flatMap, map-map}
-use mathlib.Core.Path.{_≡_, refl, sym, ap, _∙_}
-use Prim.Native.Nat.{ℕ, zero, suc, _+_, _-_, _≤_, _<_}
+use mathlib.Core.List.{List, map, flatMap, map-map}
+use mathlib.Core.Path.{_≡_, sym, ap, _∙_}
+use Prim.Native.Nat.{ℕ, _+_, _-_, _≤_, _<_}
 use native.Mathlib.Omega.{arith}
-use lib.ListN.{length, getD, replicate, length-append}
+use lib.ListN.{length, length-append}
 use lib.Seq.{getD-append-add}
 use Rattle.tables.specs.Words.{below}
 use Rattle.tables.specs.Terms.{Term, noTerm, termAt}
 use Rattle.tables.specs.declared.Tables.{Tables}
-use Rattle.tables.proofs.Words.{below-mem}
+use Rattle.tables.proofs.Words.{below-mem, flatMap-agree}
 use Rattle.tables.proofs.WordBytes.{getD-below}
 use Rattle.closure.specs.Steps.{tableOf}
 use Rattle.running.specs.Shown.{padded}
 use Rattle.running.specs.declared.state.State.{State as Arrays}
+use Rattle.running.proofs.Arrays.{padded-at}
 use Rattle.running.proofs.Showing.{shown-symbol, shown-arity, shown-row}
 use Rattle.demands.specs.Buffers.{termBytes}
 use Rattle.engine.specs.Ending.{Ends, termsIn, literalsIn, recordBytes, recordIn}
 use Rattle.demands.proofs.AddedTerms.{addedBytes, laid, termBytes-laid}
 use Rattle.demands.proofs.Partition.{flatMap-of-map}
-use Rattle.engine.proofs.Writing.{flatMap-agree}
 use Rattle.engine.proofs.Searches.{count-is}
-
--- zeros say what is read past the end
-zeros-at : (n j : ℕ) → _≡_ {A = ℕ} (getD (replicate n 0) j 0) 0
-zeros-at zero j = refl
-zeros-at (suc n) zero = refl
-zeros-at (suc n) (suc j) = zeros-at n j
-
-behind-zeros : (xs : List ℕ) (n j : ℕ) → getD (xs ++ replicate n 0) j 0 ≡ getD xs j 0
-behind-zeros [] n j = zeros-at n j
-behind-zeros (x ∷ xs) n zero = refl
-behind-zeros (x ∷ xs) n (suc j) = behind-zeros xs n j
-
--- "Argument fields past the arity are zero"
-pub padded-at : (xs : List ℕ) (j : ℕ) → getD (padded xs) j 0 ≡ getD xs j 0
-unfolding padded
-padded-at xs j = behind-zeros xs (4 - length xs) j
 
 -- a record laid out by its fields is the term's
 record-term : (m : Term) → recordBytes (m .symbol) (length (m .arguments)) (padded (m .arguments)) ≡ termBytes m

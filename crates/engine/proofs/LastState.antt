@@ -22,7 +22,7 @@ use Rattle.running.specs.Stepping.{OnRun}
 use Rattle.running.specs.declared.state.State.{State as Arrays}
 use Rattle.running.proofs.Beginning.{terms-are}
 use Rattle.running.proofs.BasicSteps.{length-literals, left-is, right-is, side-is, sides-in}
-use Rattle.running.proofs.DerivedSteps.{two-test}
+use Rattle.tables.proofs.Colours.{two-test}
 use Rattle.running.proofs.OnRuns.{on-run-sound, arity-small, can-root}
 use Rattle.closure.proofs.Walking.Parents.{hop-sound}
 use Rattle.closure.proofs.Running.OwnRun.{own-run}

@@ -14,7 +14,7 @@ use Rattle.tables.specs.LiteralTable.{literalCount, literalRecord}
 use Rattle.tables.specs.Colours.{inUse}
 use Rattle.tables.specs.Read.{soundTables}
 use Rattle.tables.specs.declared.Tables.{Tables}
-use Rattle.tables.proofs.Words.{below-mem, firstBelow-agree}
+use Rattle.tables.proofs.Words.{below-mem, firstBelow-agree, flatMap-agree}
 use Rattle.tables.proofs.Filled.{filled-at}
 use Rattle.tables.proofs.Sound.{length-termsOf}
 use Rattle.reading.specs.Fields.{fieldsOf}
@@ -27,7 +27,6 @@ use Rattle.closure.proofs.Walking.Joined.{joined-by}
 use Rattle.clauses.specs.Reading.{literalAt, contradicted, critical}
 use Rattle.demands.proofs.Critical.{contradicted-by, critical-by}
 use Rattle.demands.specs.Buffers.{classNumber, partitionBytes}
-use Rattle.engine.proofs.Writing.{flatMap-agree}
 use Rattle.engine.specs.Ending.{Ends, termsIn, literalsIn, metBy, classBy}
 
 module _ (t : Tables) (s : Arrays) (w : Ends t s) where

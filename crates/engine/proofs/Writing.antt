@@ -1,13 +1,12 @@
 -- Loops that write records of one size one behind the other, over what a lent buffer holds.
-use mathlib.Core.List.{List, [], _∷_, _++_, flatMap, append-assoc, append-nil, List·Memᴰ, List·Memᴰ·head, List·Memᴰ·tail}
-use mathlib.Core.Path.{_≡_, refl, sym, ap, ap₂, _∙_}
+use mathlib.Core.List.{List, _++_, flatMap}
+use mathlib.Core.Path.{_≡_, sym, ap, ap₂, _∙_}
 use Prim.Native.Nat.{ℕ, _+_, _*_, _≤_}
-use native.Mathlib.Numerals.{add-one}
 use native.Mathlib.Omega.{arith}
 use lib.ListN.{length, take, drop, length-append}
 use lib.Seq.{paste, take-at, take-length, drop-append-add, drop-drop, length-take-le}
 use Rattle.tables.specs.Words.{below}
-use Rattle.tables.proofs.Words.{length-below}
+use Rattle.tables.proofs.Words.{length-below, flatMap-below-none, flatMap-below-more}
 use Rattle.tables.proofs.WordBytes.{records-length}
 use Rattle.demands.specs.Buffers.{writtenOver}
 
@@ -31,26 +30,14 @@ over-more bytes more buffer out at h e =
     drop-drop (length more) (length bytes) buffer ∙
     ap (λ (k : ℕ). drop k buffer) (sym (length-append bytes more)))
 
--- one list after the other, of two lists
-flatMap-append {ℓ} : {A : Type ℓ} (f : A → List ℕ) (xs ys : List A) → flatMap f (xs ++ ys) ≡ flatMap f xs ++ flatMap f ys
-unfolding flatMap
-flatMap-append f [] ys = refl
-flatMap-append f (x ∷ xs) ys = ap (λ (l : List ℕ). f x ++ l) (flatMap-append f xs ys) ∙ sym (append-assoc (f x) (flatMap f xs) (flatMap f ys))
-
--- one list after the other, by two functions that agree on the members
-pub flatMap-agree {ℓ} : {A : Type ℓ} (f g : A → List ℕ) (xs : List A) → ((x : A) → List·Memᴰ x xs → f x ≡ g x) → flatMap f xs ≡ flatMap g xs
-unfolding flatMap
-flatMap-agree f g [] h = refl
-flatMap-agree f g (x ∷ xs) h = ap₂ (λ (a b : List ℕ). a ++ b) (h x (List·Memᴰ·head refl)) (flatMap-agree f g xs (λ y m. h y (List·Memᴰ·tail m)))
-
 -- the first i records are written
 abbrev pub Written : (ℕ → List ℕ) → ℕ → List ℕ → List ℕ → Type 0
 Written f i buffer out = out ≡ writtenOver (flatMap f (below i)) buffer
 
 -- nothing is written yet
 pub written-none : (f : ℕ → List ℕ) (buffer : List ℕ) → Written f 0 buffer buffer
-unfolding writtenOver flatMap below
-written-none f buffer = refl
+unfolding writtenOver
+written-none f buffer = sym (ap (λ (l : List ℕ). writtenOver l buffer) (flatMap-below-none f))
 
 -- the first i records, of one size, have so many bytes
 pub length-first : (size : ℕ) (f : ℕ → List ℕ) → ((k : ℕ) → length (f k) ≡ size) → (i : ℕ) → length (flatMap f (below i)) ≡ size * i
@@ -58,12 +45,11 @@ length-first size f sized i = records-length size f (below i) (λ k m. sized k) 
 
 -- the next record is written at its place
 pub written-more : (size : ℕ) (f : ℕ → List ℕ) → ((k : ℕ) → length (f k) ≡ size) → (i : ℕ) (buffer out next bytes : List ℕ) → Written f i buffer out → next ≡ writtenOver (take (size * i) out ++ bytes) out → bytes ≡ f i → Written f (i + 1) buffer next
-unfolding flatMap below
 written-more size f sized i buffer out next bytes w e same =
     e ∙ ap (λ (r : List ℕ). writtenOver (take (size * i) out ++ r) out) same ∙
     over-more (flatMap f (below i)) (f i) buffer out (size * i) (length-first size f sized i) w ∙
     ap (λ (l : List ℕ). writtenOver l buffer)
-    (sym (ap (λ (k : ℕ). flatMap f (below k)) (add-one i) ∙ flatMap-append f (below i) (i ∷ []) ∙ ap (λ (l : List ℕ). flatMap f (below i) ++ l) (append-nil (f i))))
+    (sym (flatMap-below-more f i))
 
 -- all records are written
 pub written-all : (f : ℕ → List ℕ) (i n : ℕ) (buffer out all : List ℕ) → Written f i buffer out → i ≤ n → n ≤ i → flatMap f (below n) ≡ all → out ≡ writtenOver all buffer

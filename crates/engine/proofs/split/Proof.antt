@@ -1,22 +1,21 @@
 -- `engine::split` meets its contract: a row of the checks refuses, or the run and what follows it say the rest.
-use mathlib.Core.Bool.{Bool, true, false, cond}
 use mathlib.Core.List.{List, [], _∷_}
 use mathlib.Core.Logic.{⊎-elim}
 use mathlib.Core.Path.{_≡_, refl, sym, ap, subst, _∙_}
 use Prim.Native.Nat.{ℕ, _<_}
 use native.Mathlib.Omega.{arith}
-use lib.Dec.{eqb}
 use lib.ListN.{getD}
 use types.Run.{OneOf}
 use denote.Enum.Declared.{tagOf}
 use Rattle.tables.specs.Bytes.{AllBytes}
-use Rattle.tables.specs.Checks.{checked, numberOf, foundOf}
-use Rattle.tables.specs.Read.{soundTables, refusedTables, tablesRead}
+use Rattle.tables.specs.Checks.{checked, foundOf}
+use Rattle.tables.specs.Read.{tablesRead}
 use Rattle.tables.specs.declared.Check.{Check}
 use Rattle.tables.specs.declared.Check.the-variants.{Sound}
 use Rattle.tables.specs.declared.Tables.{Tables}
 use Rattle.tables.proofs.Check.{the-type}
 use Rattle.tables.proofs.Words.{mem-getD}
+use Rattle.tables.proofs.Sound.{read-check}
 use Rattle.running.specs.Opening.{ReadFrom}
 use Rattle.running.specs.Stepping.{Ends}
 use Rattle.running.proofs.Beginning.{terms-fit}
@@ -33,14 +32,6 @@ use Rattle.engine.proofs.split.Statement.{statement}
 use Rattle.engine.proofs.split.Tie as tie
 
 -- the tables that were read say what the checks say
-read-check : (terms literals : List ℕ) → tablesRead terms literals .check ≡ checked terms literals
-unfolding tablesRead soundTables refusedTables
-read-check terms literals = go (eqb (numberOf (checked terms literals)) 0)
-  where
-    go : (b : Bool) → cond b (soundTables (checked terms literals) terms literals) (refusedTables (checked terms literals)) .check ≡ checked terms literals
-    go true = refl
-    go false = refl
-
 check-is : (terms literals : List ℕ) (t : Tables) → t ≡ tablesRead terms literals → checked terms literals ≡ t .check
 check-is terms literals t e = sym (ap (λ (x : Tables). x .check) e ∙ read-check terms literals)
 

@@ -1,5 +1,5 @@
 -- `engine::forest::laid_out` meets its contract: a walk of its MIR, by hand, for the prover covers no reference to a struct. The edges are lent for a lifetime that is made for the call, and are the function's own again after it. All that the proof knows of `columns_of` is that it meets its contract.
-use mathlib.Core.Path.{_≡_, refl, sym, _∙_}
+use mathlib.Core.Path.{_≡_, refl, sym, subst, _∙_}
 use Prim.Native.Nat.{ℕ, _≤_, _<_, _^_}
 use native.Mathlib.Omega.{arith}
 use mathlib.Core.List.{List, [], _∷_, map}
@@ -45,7 +45,8 @@ use denote.Triple.Walked.{says, needs, Stays, stay-none, walkOf, goes-none, Walk
 use denote.Triple.Clauses.{ensured, lasts}
 use denote.Exit.{yes}
 use Rattle.closure.specs.Forests.{Each}
-use Rattle.graphs.specs.Layout.{newestFirst, edgesOf}
+use Rattle.graphs.specs.Layout.{newestFirst}
+use Rattle.graphs.proofs.Numbered.{edges-are}
 use Rattle.closure.specs.declared.Edge.{Edge}
 use Rattle.graphs.specs.declared.graph.Graph.{Graph}
 use Rattle.closure.proofs.Edge as E
@@ -174,10 +175,9 @@ module _ {M : Type 1} (𝓤 : URA M) (H : Heap 𝓤) (A : Atoms 𝓤) (W : Given
     said r = exE 𝓤 _ (λ ws. snd∗ 𝓤 (sem 𝓤 H A (lasts walk.ended (α ∷ [], tt) (x, (g .count, tt)) ws)) (fact 𝓤 (Stand r)))
 
   exits : (r : Columns) (u : Val) → Stand r → ent 𝓤 (⋆ 𝓤 H A (‵ ftrue ∷ ‵ Own ∷ ‵ (T.the-row .own r (u ∷ [])) ∷ [])) (Post u)
-  unfolding edgesOf
   exits r u w =
       qed W (‵ ftrue ∷ ‵ Own ∷ ‵ (T.the-row .own r (u ∷ [])) ∷ []) ∵
-      suffices ! _ (ends-at 𝓤 H A lend.ended stayed (lend.clauses 𝓤 H A mem run) W bound u r (tt, tt) (tt, tt)) $ says ! w $ frame ! $ frame ! $ done !
+      suffices ! _ (ends-at 𝓤 H A lend.ended stayed (lend.clauses 𝓤 H A mem run) W bound u r (tt, tt) (tt, tt)) $ says ! (subst (Each (PartsAt (r .lefts) (r .rights) (r .inb) (r .derived))) (sym (edges-are g)) w) $ frame ! $ frame ! $ done !
 
   module _ (𝓣 : Tables 𝓤 H) (known : Triple 𝓤 (𝓣 .C #walk) (Walk 𝓤 H A W mem run)) where
     walks : ent 𝓤 (onEntry 𝓤 H A lend.signature tt tt (g, tt) (val g ∷ [], tt)) (WpFn 𝓤 H (𝓣 .C) (𝓣 .Λ) code.function (val g ∷ []) Post)
