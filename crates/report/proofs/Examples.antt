@@ -1,9 +1,8 @@
 -- Answers of 01's bench cases, and what is printed of each. The buffers have a sentinel byte behind what the call wrote.
-use mathlib.Core.List.{List, [], _∷_, map, flatMap}
+use mathlib.Core.List.{List, [], _∷_, map}
 use mathlib.Core.Path.{_≡_, refl}
 use Prim.Native.Nat.{ℕ}
-use Rattle.tables.specs.Words.{below}
-use Rattle.clauses.specs.ReadBack.{clausesRead}
+use Rattle.clauses.proofs.Computing.{computing}
 use Rattle.demands.specs.declared.Answer.{Answer}
 use Rattle.demands.specs.declared.Answer.the-variants.{Consistent, Inconsistent, Refused}
 use Rattle.report.specs.Page.{page, shown}
@@ -97,7 +96,7 @@ examples = late ∷ late-in-a ∷ middle ∷ joined ∷ no-record ∷ no-terms �
 
 -- each is printed as 01 says
 pub printed : map (λ e. reportOf (e .answer) (e .given) (e .partition) (e .added) (e .clauses)) examples ≡ map (λ e. e .text) examples
-unfolding examples reportOf digits below flatMap clausesRead
+unfolding examples reportOf digits computing
 printed = refl
 
 -- where there is room, what the buffer held stays behind the text
