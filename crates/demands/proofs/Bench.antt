@@ -22,7 +22,7 @@ consistently = record { verdict = 0; number = 0; place = 0; disequality = 0; add
 abbrev pub inconsistentBy : ℕ → ℕ → ℕ → Numbers
 inconsistentBy d a r = record { verdict = 1; number = 0; place = 0; disequality = d; added = a; records = r }
 
-pub bytes : List (List ℕ) → List ℕ
+unfoldable pub bytes : List (List ℕ) → List ℕ
 bytes = flatMap (λ r. r)
 
 -- the buffers as they are lent
@@ -49,7 +49,7 @@ lateEqualities =
     []
 
 -- the terms of MIDDLE: k, m, p, a, b, g(a,m), g(k,b)
-middleTerms : List (List ℕ)
+unfoldable pub middleTerms : List (List ℕ)
 middleTerms =
     (10 ∷ 0 ∷ 0 ∷ 0 ∷ 0 ∷ 0 ∷ 0 ∷ 0 ∷ 0 ∷ 0 ∷ 0 ∷ 0 ∷ 0 ∷ 0 ∷ 0 ∷ 0 ∷ []) ∷
     (11 ∷ 0 ∷ 0 ∷ 0 ∷ 0 ∷ 0 ∷ 0 ∷ 0 ∷ 0 ∷ 0 ∷ 0 ∷ 0 ∷ 0 ∷ 0 ∷ 0 ∷ 0 ∷ []) ∷
@@ -61,7 +61,7 @@ middleTerms =
     []
 
 -- and its literals: A a=k, A p=g(a,m), B b=m, B p different g(k,b)
-middleLiterals : List (List ℕ)
+unfoldable pub middleLiterals : List (List ℕ)
 middleLiterals =
     (1 ∷ 1 ∷ 3 ∷ 0 ∷ 0 ∷ 0 ∷ 0 ∷ 0 ∷ []) ∷
     (1 ∷ 1 ∷ 2 ∷ 0 ∷ 5 ∷ 0 ∷ 0 ∷ 0 ∷ []) ∷

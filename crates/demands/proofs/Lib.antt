@@ -1,6 +1,7 @@
 -- Theorems about the definitions of specs/.
 pub mod Computing
 pub mod Bench
+pub mod Applied
 pub mod Choices
 pub mod AddedTerms
 pub mod Critical
