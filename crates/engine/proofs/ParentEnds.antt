@@ -21,12 +21,12 @@ use Rattle.running.specs.declared.Row.{Row}
 use Rattle.running.specs.declared.state.State.{State as Arrays}
 use Rattle.running.specs.Shown.{Shows}
 use Rattle.running.specs.Keys.{noRow}
+use Rattle.running.proofs.Arrays.{padded-at}
 use Rattle.running.proofs.Showing.{shown-arity, shown-row}
 use Rattle.marking.specs.Drawn.{isDerived, parentsFor, PartsAt, EdgeAt}
 use Rattle.marking.specs.declared.edges.Columns.{Columns}
 use Rattle.marking.proofs.Owing.{places-few}
 use Rattle.engine.specs.Ending.{PlacesOf, ParentsOf, parentAt}
-use Rattle.engine.proofs.AddedRecords.{padded-at}
 
 -- a count of arguments by an edge's kind
 places-by : (k : EdgeKind) (n : ℕ) → cond (isDerived k) n 0 ≡ parentsFor k n
