@@ -1,40 +1,16 @@
 // The program over the engine: reads `terms.tab` and `literals.tab`, at most 4,112 and 8,200 bytes of them, judges what it read, and prints.
 
+use files::Got;
+use libc::STDERR_FILENO;
 use libc::STDOUT_FILENO;
 
-enum Loaded {
-    Bytes(usize),
-    Missing,
-}
-
-// Reads as much of a file as the buffer holds. One that opens and cannot be read, as a folder, counts as one that cannot be opened.
-fn load(name: &[u8], buffer: &mut [u8]) -> Loaded {
-    let fd = os::open_read(name);
-    if fd < 0 {
-        return Loaded::Missing;
-    }
-    let mut nothing = [0u8; 1];
-    if libc::read(fd, &mut nothing[..0]) < 0 {
-        libc::close(fd);
-        return Loaded::Missing;
-    }
-    let n = io::read_full(fd, buffer);
-    libc::close(fd);
-    Loaded::Bytes(n)
-}
-
-fn no_file(name: &[u8]) {
-    io::write_all(STDOUT_FILENO, b"no file ");
-    io::write_all(STDOUT_FILENO, name);
-    io::write_all(STDOUT_FILENO, b"\n");
-}
-
-// The first bytes of a buffer, as many as were put there. The count is tested here, so that callers need no bound on it.
-fn front(bytes: &[u8], count: usize) -> &[u8] {
-    if count <= bytes.len() {
-        &bytes[0..count]
-    } else {
-        bytes
+// A program has no exit status here, so standard error says where the output is not whole.
+fn print(text: &[u8]) {
+    if files::put(STDOUT_FILENO, text) < text.len() {
+        files::put(
+            STDERR_FILENO,
+            b"eqsplit: the output was not written whole\n",
+        );
     }
 }
 
@@ -53,19 +29,19 @@ fn judge(terms: &[u8], literals: &[u8]) {
         &clauses,
         &mut text,
     );
-    io::write_all(STDOUT_FILENO, front(&text, length));
+    print(&text[..length]);
 }
 
 fn main() {
     let mut terms = [0u8; 4112];
     let mut literals = [0u8; 8200];
-    let Loaded::Bytes(n) = load(b"terms.tab", &mut terms) else {
-        no_file(b"terms.tab");
+    let Got::Bytes(n) = files::load(b"terms.tab", &mut terms) else {
+        print(b"no file terms.tab\n");
         return;
     };
-    let Loaded::Bytes(m) = load(b"literals.tab", &mut literals) else {
-        no_file(b"literals.tab");
+    let Got::Bytes(m) = files::load(b"literals.tab", &mut literals) else {
+        print(b"no file literals.tab\n");
         return;
     };
-    judge(front(&terms, n), front(&literals, m));
+    judge(&terms[..n], &literals[..m]);
 }

@@ -8,10 +8,10 @@ use Rattle.cases.proofs.bytes_of.Statement.{statement}
 use Rattle.cases.proofs.bytes_of.Tie as tie
 
 abbrev Inv-loop : tie.InvT-loop
-Inv-loop name bytes count each pattern i₀ i = i ≤ length bytes
+Inv-loop whole₀ name bytes count each pattern i₀ whole i = i ≤ length bytes
 
 abbrev μ-loop : tie.MeasureT-loop
-μ-loop name bytes count each pattern i₀ i = length bytes - i
+μ-loop whole₀ name bytes count each pattern i₀ whole i = length bytes - i
 
 loop-holds : tie.Need-loop-holds Inv-loop μ-loop
 loop-holds c = omega arith
@@ -19,11 +19,8 @@ loop-holds c = omega arith
 div-if1 : tie.Need-div-if1 Inv-loop μ-loop
 div-if1 c = search needs
 
-shared-slice-read-wide : tie.Need-shared-slice-read-wide Inv-loop μ-loop
-shared-slice-read-wide c = omega arith
-
-wide-requires : tie.Need-wide-requires Inv-loop μ-loop
-wide-requires c κs = search needs
+shared-slice-read-print-hex : tie.Need-shared-slice-read-print-hex Inv-loop μ-loop
+shared-slice-read-print-hex c = omega arith
 
 print-hex-requires : tie.Need-print-hex-requires Inv-loop μ-loop
 print-hex-requires c κs = search needs
@@ -57,8 +54,7 @@ bytes-of-spec =
     μ-loop
     loop-holds
     div-if1
-    shared-slice-read-wide
-    wide-requires
+    shared-slice-read-print-hex
     print-hex-requires
     shared-slice-read-if2
     changed-requires

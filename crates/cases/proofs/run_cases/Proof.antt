@@ -7,10 +7,10 @@ use Rattle.cases.proofs.run_cases.Statement.{statement}
 use Rattle.cases.proofs.run_cases.Tie as tie
 
 abbrev Inv-loop : tie.InvT-loop
-Inv-loop fd left₀ left = left ≤ left₀
+Inv-loop whole₀ fd left₀ whole left = left ≤ left₀
 
 abbrev μ-loop : tie.MeasureT-loop
-μ-loop fd left₀ left = left
+μ-loop whole₀ fd left₀ whole left = left
 
 loop-holds : tie.Need-loop-holds Inv-loop μ-loop
 loop-holds c = omega arith
@@ -18,8 +18,8 @@ loop-holds c = omega arith
 run-case-requires : tie.Need-run-case-requires Inv-loop μ-loop
 run-case-requires c κs = search needs
 
-returns : tie.Need-returns Inv-loop μ-loop
-returns c = search needs
+enum-told : tie.Need-enum-told Inv-loop μ-loop
+enum-told c = search needs
 
 sub-left : tie.Need-sub-left Inv-loop μ-loop
 sub-left c = omega arith
@@ -30,8 +30,20 @@ loop-less c = omega arith
 loop-again : tie.Need-loop-again Inv-loop μ-loop
 loop-again c = omega arith
 
+enum-told-2 : tie.Need-enum-told-2 Inv-loop μ-loop
+enum-told-2 c = search needs
+
+returns : tie.Need-returns Inv-loop μ-loop
+returns c = search needs
+
+enum-told-3 : tie.Need-enum-told-3 Inv-loop μ-loop
+enum-told-3 c = search needs
+
 returns-2 : tie.Need-returns-2 Inv-loop μ-loop
 returns-2 c = search needs
+
+returns-3 : tie.Need-returns-3 Inv-loop μ-loop
+returns-3 c = search needs
 
 pub run-cases-spec : {M : Type 1} → statement M
 run-cases-spec =
@@ -41,8 +53,12 @@ run-cases-spec =
     μ-loop
     loop-holds
     run-case-requires
-    returns
+    enum-told
     sub-left
     loop-less
     loop-again
-    returns-2)
+    enum-told-2
+    returns
+    enum-told-3
+    returns-2
+    returns-3)
