@@ -26,26 +26,37 @@ mod speed;
 mod tables;
 mod vectors;
 
-const USAGE: &str = "compare COUNT SEED | one SEED INDEX | vectors FILE.. | speed SEED";
+const USAGE: &str = "usage: model compare COUNT SEED | one SEED INDEX | vectors FILE.. | speed SEED";
 
-fn number(text: Option<&String>) -> u64 {
-    text.and_then(|t| t.parse().ok()).unwrap_or_else(|| panic!("{}", USAGE))
+fn number(text: &str) -> Option<u64> {
+    text.parse().ok()
 }
 
-fn command(arguments: &[String]) -> bool {
-    match arguments.first().map(|a| a.as_str()) {
-        Some("compare") => compare::compare(number(arguments.get(1)), number(arguments.get(2))),
-        Some("one") => compare::one(number(arguments.get(1)), number(arguments.get(2))),
-        Some("vectors") => vectors::check(&arguments[1..]),
-        Some("speed") => speed::speed(number(arguments.get(1))),
-        _ => panic!("{}", USAGE),
+/// Whether all went well; nothing where the words are no command.
+fn command(arguments: &[&str]) -> Option<bool> {
+    match arguments {
+        ["compare", count, seed] => Some(compare::compare(number(count)?, number(seed)?)),
+        ["one", seed, index] => Some(compare::one(number(seed)?, number(index)?)),
+        ["vectors", files @ ..] => Some(vectors::check(files)),
+        ["speed", seed] => Some(speed::speed(number(seed)?)),
+        _ => None,
+    }
+}
+
+fn status(arguments: Vec<String>) -> i32 {
+    let words: Vec<&str> = arguments.iter().map(|a| a.as_str()).collect();
+    match command(&words) {
+        Some(good) => !good as i32,
+        None => {
+            eprintln!("{}", USAGE);
+            2
+        }
     }
 }
 
 /// All runs on a thread with room for the engine's working storage, which lies on the stack.
 fn main() {
-    let arguments: Vec<String> = std::env::args().skip(1).collect();
-    let worker = std::thread::Builder::new().stack_size(64 << 20).spawn(move || command(&arguments));
-    let good = worker.expect("a thread").join().unwrap_or(false);
-    std::process::exit(!good as i32);
+    let arguments = std::env::args_os().skip(1).map(|a| a.to_string_lossy().into_owned()).collect();
+    let worker = std::thread::Builder::new().stack_size(64 << 20).spawn(move || status(arguments));
+    std::process::exit(worker.expect("a thread").join().unwrap_or(1));
 }

@@ -55,14 +55,28 @@ fn answers(case: &Case, name: &str, call: Call) -> bool {
     got == case.answer
 }
 
-/// Goes over the files and says how many lines were answered alike; whether all were.
-pub fn check(files: &[String]) -> bool {
-    let (mut right, mut all) = (0, 0);
+/// Whether a line's case is answered by both as it says.
+fn agrees(line: &str) -> bool {
+    match case(line) {
+        Some(case) => answers(&case, "model", judge::split) & answers(&case, "engine", engine::split),
+        None => {
+            println!("not a case");
+            false
+        }
+    }
+}
+
+/// Goes over the files and says how many lines were answered alike; whether all files could be read and all lines were.
+pub fn check(files: &[&str]) -> bool {
+    let (mut right, mut all, mut read) = (0, 0, true);
     for file in files {
-        let text = std::fs::read_to_string(file).unwrap_or_else(|e| panic!("{}: {}", file, e));
+        let text = std::fs::read_to_string(file).unwrap_or_else(|e| {
+            eprintln!("{}: {}", file, e);
+            read = false;
+            String::new()
+        });
         for (number, line) in text.lines().enumerate().filter(|(_, l)| !l.is_empty() && !l.starts_with('#')) {
-            let case = case(line).unwrap_or_else(|| panic!("{}:{}: not a case", file, number + 1));
-            let both = answers(&case, "model", judge::split) & answers(&case, "engine", engine::split);
+            let both = agrees(line);
             if !both {
                 println!("  at {}:{}", file, number + 1);
             }
@@ -71,5 +85,5 @@ pub fn check(files: &[String]) -> bool {
         }
     }
     println!("{} of {} vectors answered as they say by model and engine", right, all);
-    right == all && all > 0
+    read && right == all && all > 0
 }
