@@ -1,7 +1,6 @@
 -- The reading of clauses applied to LATE, and computed. Each theorem is a sentence of 01, and fails where a definition says something else.
 use mathlib.Core.List.{List, [], _∷_, _++_}
 use mathlib.Core.Path.{_≡_, refl}
-use Prim.Native.Nat.{ℕ}
 use lib.ListN.{length}
 use Rattle.tables.specs.Words.{pair}
 use Rattle.tables.specs.LiteralTable.{Literal}

@@ -7,12 +7,11 @@ use native.Mathlib.Omega.{arith}
 use lib.ListN.{length}
 use borrow.Author.Tests.{eq-eqb, ne-eqb}
 use Rattle.tables.specs.Words.{below, Pair, pair}
-use Rattle.tables.specs.Bytes.{byteAt, wordAt, wordBytes, recordAt}
+use Rattle.tables.specs.Bytes.{byteAt, wordAt, wordBytes, recordAt, AllBytes}
 use Rattle.tables.specs.Terms.{Term}
 use Rattle.tables.specs.LiteralTable.{Literal}
 use Rattle.tables.specs.Interpretations.{Interpretation}
 use Rattle.tables.proofs.Words.{flatMap-mem}
-use Rattle.tables.specs.Bytes.{AllBytes}
 use Rattle.tables.proofs.WordBytes.{word-value, bytes-none, bytes-cons, bytes-append, bytes-flatMap, wordBytes-bytes, records-read, records-length}
 use Rattle.clauses.specs.Clauses.{Clause, Conclusion, equals, differs, falsum}
 use Rattle.clauses.specs.Records.{standing, clauseRecord, conclusionRecord, recordsOf, clauseRecords}

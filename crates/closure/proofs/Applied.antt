@@ -9,8 +9,8 @@ use Rattle.tables.specs.Terms.{Term}
 use Rattle.tables.specs.LiteralTable.{Literal, equal, different}
 use Rattle.tables.specs.declared.Side.{Side}
 use Rattle.tables.specs.declared.Side.the-variants.{A, B}
-use Rattle.closure.specs.Graph.{EdgeKind, Edge, basic, derived, Graph, joined, Hop, Path, forth, back, path, parentPaths}
-use Rattle.closure.specs.Steps.{State, congruent, tied}
+use Rattle.closure.specs.Graph.{EdgeKind, Edge, basic, derived, Graph, joined, Path, forth, back, path, parentPaths}
+use Rattle.closure.specs.Steps.{congruent, tied}
 use Rattle.closure.specs.OwnRun.{ownRun}
 use Rattle.closure.proofs.Computing.{computing}
 

@@ -7,14 +7,12 @@ use native.Mathlib.Omega.{arith}
 use lib.Dec.{T, eqb, ltb, leb, not-T, ltb→lt, leb→le}
 use lib.ListN.{length, getD, take, length-append, length-map, List·getD-eq-default, List·getD-map}
 use Rattle.tables.specs.Words.{below, any}
-use Rattle.tables.specs.Tests.{someBelow}
-use Rattle.tables.specs.Bytes.{recordAt, wordBytes}
+use Rattle.tables.specs.Tests.{someBelow, arityWrong, spareWrong, notLower, unusedNotZero, breaksLayout}
+use Rattle.tables.specs.Bytes.{recordAt, wordBytes, AllBytes}
 use Rattle.tables.specs.Terms.{Term, noTerm, termAt}
 use Rattle.tables.specs.TermTable.{termRecord, symbolField, arityField, argumentField, rowOf, termCount, termOf, termsOf}
-use Rattle.tables.specs.Tests.{arityWrong, spareWrong, notLower, unusedNotZero, breaksLayout}
 use Rattle.tables.proofs.Words.{and-left, and-right, failed, getD-mem, below-mem, someBelow-some}
 use Rattle.tables.proofs.Terms.{map-agree}
-use Rattle.tables.specs.Bytes.{AllBytes}
 use Rattle.tables.proofs.WordBytes.{word-value, bytes-none, bytes-cons, bytes-append, bytes-flatMap, wordBytes-bytes, record-read, records-read, records-length, record-behind, records-behind}
 use Rattle.demands.specs.Buffers.{termBytes}
 

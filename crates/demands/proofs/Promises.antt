@@ -19,14 +19,13 @@ use Rattle.tables.specs.Colours.{inUse}
 use Rattle.tables.specs.Rows.{Refuses, Accepted}
 use Rattle.tables.specs.Checks.{checked}
 use Rattle.tables.specs.declared.Check.the-variants.{Sound}
-use Rattle.tables.specs.Interpretations.{Satisfiable, FinitelySatisfiable, Entailed, FinitelyEntailed}
+use Rattle.tables.specs.Interpretations.{Satisfiable, FinitelySatisfiable}
 use Rattle.tables.proofs.Colours.{SidesWithin, inUse-within}
 use Rattle.tables.proofs.Words.{and-left, and-right, and-both}
 use Rattle.tables.proofs.Rows.{sound-exactly}
 use Rattle.tables.proofs.Sound.{sound, length-termsOf, lower-arguments, sides-within}
 use Rattle.closure.specs.Graph.{joined}
 use Rattle.closure.specs.Steps.{State, tableOf, Run, NoStepLeft}
-use Rattle.closure.specs.OwnRun.{ownRun}
 use Rattle.closure.proofs.Running.Runs.{run-sound}
 use Rattle.closure.proofs.Running.OwnRun.{own-run}
 use Rattle.closure.proofs.Running.FewSteps.{fewer-steps, few-added, own-run-complete}

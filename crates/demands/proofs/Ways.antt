@@ -1,12 +1,12 @@
 -- The ways in which a call comes back: refused by a row, or answered by one of the two verdicts. There is no other.
 use mathlib.Core.Bool.{Bool, true, false, cond}
 use mathlib.Core.List.{List, [], _∷_, map, flatMap}
-use mathlib.Core.Logic.{_⊎_, inl, inr, ⊎-elim}
+use mathlib.Core.Logic.{_⊎_, ⊎-elim}
 use mathlib.Core.Option.{Option, some, none}
 use mathlib.Core.Path.{_≡_, refl, sym, ap, ap₂, subst, _∙_}
 use Prim.Native.Nat.{ℕ, _*_, _≤_, _<_}
 use native.Mathlib.Omega.{arith}
-use lib.Dec.{T, ltb, lt→ltb, ltb→lt, not-T}
+use lib.Dec.{ltb, lt→ltb, ltb→lt, not-T}
 use lib.ListN.{length}
 use Rattle.tables.specs.Terms.{Term}
 use Rattle.tables.specs.TermTable.{termsOf}
@@ -24,12 +24,8 @@ use Rattle.closure.proofs.Running.OwnRun.{own-run-never-stuck}
 use Rattle.clauses.specs.Reading.{literalAt, critical, summary, readBetween}
 use Rattle.clauses.specs.Records.{clauseRecords}
 use Rattle.clauses.proofs.Records.{clauseBytes-length}
-use Rattle.demands.specs.declared.Answer.{Answer}
-use Rattle.demands.specs.declared.Answer.the-variants.{Consistent, Inconsistent, Refused}
-use Rattle.demands.specs.declared.Numbers.{Numbers}
-use Rattle.demands.specs.Answers.{numbersOf}
 use Rattle.demands.specs.Buffers.{Buffers, Returned, partitionBytes, termBytes}
-use Rattle.demands.specs.Verdicts.{Verdict, recordsIn, withClasses, withSummary, answered}
+use Rattle.demands.specs.Verdicts.{Verdict, recordsIn, answered}
 use Rattle.demands.specs.Refusals.{Short, partition-short, added-short, clauses-short, rowsOf}
 use Rattle.demands.specs.Call.{refused, tooShort, consistent, inconsistent, verdict, ended, afterChecks, judged}
 use Rattle.demands.proofs.AddedTerms.{addedBytes-length}

@@ -11,10 +11,9 @@ use Rattle.tables.specs.Terms.{Term}
 use Rattle.tables.specs.declared.Tables.{Tables}
 use Rattle.running.specs.declared.state.State.{State as Arrays}
 use Rattle.demands.specs.declared.Answer.the-variants.{Consistent, Inconsistent}
-use Rattle.demands.specs.Buffers.{termBytes, writtenOver}
+use Rattle.demands.specs.Buffers.{termBytes, writtenOver, Buffers, Returned}
 use Rattle.demands.specs.Answers.{numbersOf}
 use Rattle.demands.specs.Call.{refused, tooShort, consistent, inconsistent}
-use Rattle.demands.specs.Buffers.{Buffers, Returned}
 use Rattle.engine.specs.Ending.{Decides, termsIn, literalsIn, recordsFor, classBy, classBytes, recordsBytes}
 use Rattle.demands.proofs.AddedTerms.{addedBytes, addedBytes-length}
 use Rattle.demands.proofs.Ways.{clauses-length}

@@ -17,9 +17,8 @@ use Rattle.running.specs.Opening.{ReadFrom}
 use Rattle.running.specs.Shown.{Shows}
 use Rattle.running.specs.Stepping.{Ends as RunEnds}
 use Rattle.running.specs.declared.state.State.{State as Arrays}
-use Rattle.demands.specs.Buffers.{termBytes}
+use Rattle.demands.specs.Buffers.{termBytes, Buffers, Returned}
 use Rattle.demands.specs.Call.{refused, consistent, inconsistent, verdict, ended}
-use Rattle.demands.specs.Buffers.{Buffers, Returned}
 use Rattle.clauses.specs.Reading.{critical}
 use Rattle.engine.specs.Ending.{Ends, termsIn, literalsIn, metBy, classBytes, recordsFor}
 use Rattle.engine.proofs.Searches.{met-first, classes-are}

@@ -6,7 +6,7 @@ use Prim.Native.Nat.{ℕ, zero, suc, _+_, _-_, _^_, _≤_, _<_}
 use native.Mathlib.Omega.{arith}
 use borrow.Author.Tests.{ne-eqb, lt-ltb}
 use lib.IntN.{ℤ, pos, negsuc, natAbs}
-use lib.Dec.{T, eqb}
+use lib.Dec.{T}
 use lib.Signed.{ltZ, nonNeg, mag}
 use lib.ListN.{length, take, drop, length-take, length-drop}
 use mir.Syntax.{Width, w32, w64}
@@ -17,7 +17,6 @@ use Rattle.files.specs.Within.{Within}
 use Rattle.files.specs.Calls.{interrupted, failure, nextOf}
 use Rattle.files.specs.declared.calls.Got.{Got}
 use Rattle.files.specs.declared.calls.Got.the-variants.{Bytes, Nothing}
-use Rattle.files.specs.declared.calls.Next.{Next}
 use Rattle.files.specs.declared.calls.Next.the-variants.{On, Again, Stop}
 
 -- a number whose bits are those of n is n

@@ -6,9 +6,8 @@ use Prim.Native.Nat.{ℕ, _-_, _≤_, _<_}
 use native.Mathlib.Omega.{arith}
 use lib.Dec.{T, eqb, not-T}
 use lib.ListN.{getD}
-use Rattle.tables.specs.Tests.{someBelow}
+use Rattle.tables.specs.Tests.{someBelow, otherArity, hadOtherArity, equalRecords, equalsEarlier}
 use Rattle.tables.specs.TermTable.{termCount, termRecord, symbolField, arityField}
-use Rattle.tables.specs.Tests.{otherArity, hadOtherArity, equalRecords, equalsEarlier}
 use Rattle.tables.specs.Read.{filled}
 use Rattle.reading.specs.Keys.{otherArityIn, recordKey, recordKeys, sameKey}
 use Rattle.tables.proofs.Words.{failed, same-eq, someBelow-some, some-someBelow, someBelow-agree}

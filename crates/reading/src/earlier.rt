@@ -8,9 +8,8 @@ ghost use mathlib.Core.Path.{_≡_};
 ghost use Prim.Native.Nat.{_+_, _*_, _≤_, _<_};
 ghost use lib.ListN.{length};
 ghost use Rattle.tables.specs.Bytes.{wordAt};
-ghost use Rattle.tables.specs.Tests.{someBelow};
+ghost use Rattle.tables.specs.Tests.{someBelow, equalRecords, equalsEarlier};
 ghost use Rattle.tables.specs.TermTable.{termCount};
-ghost use Rattle.tables.specs.Tests.{equalRecords, equalsEarlier};
 ghost use Rattle.tables.specs.Checks.{foundOf, arityRow, repeatedRow};
 ghost use Rattle.reading.specs.Keys.{otherArityIn, recordKey, recordKeys, sameKey};
 

@@ -8,9 +8,8 @@ ghost use mathlib.Core.Path.{_≡_};
 ghost use Prim.Native.Nat.{_+_, _*_, _≤_, _<_};
 ghost use lib.ListN.{length};
 ghost use Rattle.tables.specs.Bytes.{byteAt, wordAt};
-ghost use Rattle.tables.specs.Tests.{someBelow};
+ghost use Rattle.tables.specs.Tests.{someBelow, spareWrong, notLower, unusedNotZero, breaksLayout};
 ghost use Rattle.tables.specs.TermTable.{termCount, termRecord, rowOf};
-ghost use Rattle.tables.specs.Tests.{spareWrong, notLower, unusedNotZero, breaksLayout};
 ghost use Rattle.tables.specs.Checks.{foundOf, layoutRow};
 ghost use Rattle.tables.specs.Read.{filled};
 

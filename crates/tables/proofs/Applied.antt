@@ -5,9 +5,8 @@ use mathlib.Core.Option.{some}
 use mathlib.Core.Path.{_≡_, refl}
 use Prim.Native.Nat.{ℕ}
 use Rattle.tables.specs.Words.{firstBelow}
-use Rattle.tables.specs.Terms.{Term, symbols}
+use Rattle.tables.specs.Terms.{symbols}
 use Rattle.tables.specs.Checks.{checked}
-use Rattle.tables.specs.declared.Check.{Check}
 use Rattle.tables.specs.declared.Check.the-variants.{Length, Layout, Arity}
 use Rattle.tables.proofs.Computing.{computing}
 

@@ -7,13 +7,11 @@ use Prim.Native.Nat.{ℕ, zero, suc, _+_, _-_, _*_, _≤_, _<_}
 use native.Mathlib.Omega.{arith}
 use lib.Dec.{T, eqb, ltb, leb, eqb→eq, ltb→lt, lt→ltb, leb→le, le→leb}
 use Rattle.tables.specs.Words.{every, same}
-use Rattle.tables.specs.Tests.{someBelow}
+use Rattle.tables.specs.Tests.{someBelow, arityWrong, spareWrong, notLower, unusedNotZero, breaksLayout, otherArity, hadOtherArity, equalRecords, equalsEarlier, notOneOrTwo, breaksLiteral}
 use Rattle.tables.specs.Bytes.{byteAt, wordAt}
 use Rattle.tables.specs.TermTable.{termRecord, symbolField, arityField, argumentField}
-use Rattle.tables.specs.Tests.{arityWrong, spareWrong, notLower, unusedNotZero, breaksLayout, otherArity, hadOtherArity, equalRecords, equalsEarlier}
 use Rattle.tables.specs.LiteralTable.{literalRecord}
 use Rattle.tables.specs.Rows.{LayoutFault, arity-over-four, byte-three, last-bytes, argument-not-lower, unused-not-zero, OtherArity, HadOtherArity, EqualsEarlier, LiteralFault, side-not-one-or-two, kind-not-one-or-two, left-not-in-table, right-not-in-table, byte-six, byte-seven}
-use Rattle.tables.specs.Tests.{notOneOrTwo, breaksLiteral}
 use Rattle.tables.proofs.Words.{every-all, or-left, or-right, decide, any-some, some-any, same-eq, same-self, someBelow-some, some-someBelow}
 use Rattle.tables.proofs.Tests.{eq-test, lt-test, le-test, not-test, ne-test, and-test, either, or-test, some-test}
 

@@ -8,9 +8,8 @@ use lib.ListN.{length}
 use lib.Dec.{eqb, ltb}
 use Rattle.tables.specs.Words.{firstBelow}
 use Rattle.tables.specs.TermTable.{termCount}
-use Rattle.tables.specs.Tests.{breaksLayout, hadOtherArity, equalsEarlier}
+use Rattle.tables.specs.Tests.{breaksLayout, hadOtherArity, equalsEarlier, breaksLiteral}
 use Rattle.tables.specs.LiteralTable.{literalCount}
-use Rattle.tables.specs.Tests.{breaksLiteral}
 use Rattle.tables.specs.declared.Found.{Found}
 use Rattle.tables.specs.declared.Found.the-variants.{At, Nothing}
 use Rattle.tables.specs.declared.Check.{Check}

@@ -16,7 +16,7 @@ use Rattle.tables.specs.LiteralTable.{Literal}
 use Rattle.tables.specs.declared.Side.{Side}
 use Rattle.tables.specs.declared.Side.the-variants.{A, B}
 use Rattle.tables.specs.Colours.{occursIn, colourable, shared}
-use Rattle.tables.proofs.Words.{passes, and-left, and-right, same-eq, firstBelow-some, below-or-is}
+use Rattle.tables.proofs.Words.{and-left, and-right, same-eq, firstBelow-some, below-or-is}
 use Rattle.tables.proofs.Colours.{SidesWithin, colourable-own, colourable-built}
 use Rattle.closure.specs.Graph.{derived, Graph, joinedPairwise}
 use Rattle.closure.specs.Steps.{State, tableOf, vertex, congruent, middleTerm, equalTerms, vertexEqual, Placed, placeAs, placed, tied, tiedBoth, withMiddle, Chosen}

@@ -1,8 +1,7 @@
 -- `reading::term_table::breaks_layout` meets its contract. The two tests of an argument field, over all fields at once, are the tests of the definition one after the other.
 use mathlib.Core.Bool.{_||_, or-assoc}
 use borrow.Author.Needs.{needs}
-use Rattle.tables.specs.Tests.{arityWrong, spareWrong, notLower, unusedNotZero, breaksLayout}
-use Rattle.tables.specs.Tests.{someBelow}
+use Rattle.tables.specs.Tests.{arityWrong, spareWrong, notLower, unusedNotZero, breaksLayout, someBelow}
 use Rattle.tables.proofs.Records.{some-either}
 use Rattle.reading.proofs.term_table.breaks_layout.Statement.{statement}
 use Rattle.reading.proofs.term_table.breaks_layout.Tie as tie
