@@ -11,7 +11,7 @@ use Rattle.closure.specs.Graph.{Graph, Hop, Path, joined, path}
 use Rattle.closure.specs.Walks.{HopOf}
 use Rattle.closure.proofs.Walking.Joined.{joined-sym}
 use Rattle.closure.proofs.Walking.Invariant.{SoundGraph}
-use Rattle.closure.proofs.Walking.OnePath.{turned, backwards, backwards-append, mem-backwards, backwards-mem, path-back}
+use Rattle.closure.proofs.Walking.OnePath.{turned, backwards, backwards-none, backwards-hop, backwards-append, mem-backwards, backwards-mem, path-back}
 use Rattle.closure.proofs.Walking.Parents.{hop-sound, path-hop, parent-hop}
 use Rattle.closure.proofs.Walking.ParentPaths.{parent-back}
 use Rattle.clauses.specs.Factors.{Factor, factors}
@@ -35,11 +35,11 @@ endOf-last x (g ∷ π) h = endOf-last (g .to) π h
 
 -- hops backwards begin where they ended, and end where they began
 backwards-ends : (h : Hop) (π : Path) → (g : Hop) × (ρ : Path) × (backwards (h ∷ π) ≡ g ∷ ρ) × (g .from ≡ endOf (h .to) π) × (endOf (g .to) ρ ≡ h .from)
-unfolding backwards endOf
-backwards-ends h [] = (turned h, [], refl, refl, refl)
+unfolding endOf
+backwards-ends h [] = (turned h, [], backwards-hop h [] ∙ ap (λ (ρ : Path). ρ ++ (turned h ∷ [])) backwards-none, refl, refl)
 backwards-ends h (k ∷ π) =
     let r = backwards-ends k π in
-    (r .0, r .1 ++ (turned h ∷ []), ap (λ (ρ : Path). ρ ++ (turned h ∷ [])) (r .2), r .3, endOf-last (r .0 .to) (r .1) (turned h))
+    (r .0, r .1 ++ (turned h ∷ []), backwards-hop h (k ∷ π) ∙ ap (λ (ρ : Path). ρ ++ (turned h ∷ [])) (r .2), r .3, endOf-last (r .0 .to) (r .1) (turned h))
 
 -- a stretch of one colour is one from its other end
 turned-stretch : {f : Factor} → Stretch f → Stretch (turnedFactor f)
@@ -61,8 +61,8 @@ backOnto (f ∷ fs) gs = backOnto fs (turnedFactor f ∷ gs)
 
 -- their hops are the hops backwards
 backOnto-hops : (fs gs : List Factor) → allHops (backOnto fs gs) ≡ backwards (allHops fs) ++ allHops gs
-unfolding backOnto flatMap backwards
-backOnto-hops [] gs = refl
+unfolding backOnto flatMap
+backOnto-hops [] gs = ap (λ (ρ : Path). ρ ++ allHops gs) (sym backwards-none)
 backOnto-hops (f ∷ fs) gs =
     backOnto-hops fs (turnedFactor f ∷ gs) ∙ sym (append-assoc (backwards (allHops fs)) (backwards (f .hops)) (allHops gs)) ∙
     ap (λ (ρ : Path). ρ ++ allHops gs) (sym (backwards-append (f .hops) (allHops fs)))

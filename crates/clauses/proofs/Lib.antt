@@ -13,3 +13,4 @@ pub mod Records
 pub mod Backwards
 pub mod OneClause
 pub mod Pieces
+pub mod Critical

@@ -15,7 +15,7 @@ use Rattle.tables.proofs.Colours.{sameSide-eq}
 use Rattle.closure.specs.Graph.{Graph, Hop, Path, path}
 use Rattle.clauses.specs.Clauses.{Clause, Conclusion, between, equals, differs, falsum}
 use Rattle.clauses.specs.Factors.{Factor, alone, longer, inFront, factors}
-use Rattle.clauses.specs.Reading.{Stretches, fromFirst, stretches, endOf, notMiddle, clausesIn, readA, readBetween}
+use Rattle.clauses.specs.Reading.{Stretches, fromFirst, stretches, endOf, notMiddle, clausesIn, readA, readBetween, summary}
 use Rattle.clauses.specs.Records.{amongPairs, ascending, concluding, isLast, firstAlone, inOrder, standing, clauseRecord, conclusionRecord, recordsOf, clauseRecords}
 use Rattle.clauses.proofs.Factors.{Alternate, last-one, other-next, factors-alternate}
 
@@ -153,6 +153,11 @@ among-mem ps p = (
 )
 
 -- ---- the two readings
+
+-- the summary of a disequality is what is read between its sides
+pub summary-read : (ts : List Term) (ls : List Literal) (table : List Term) (G : Graph) (l : Literal) → summary ts ls table G l ≡ readBetween ts ls table G (l .side) (l .left) (l .right)
+unfolding summary
+summary-read ts ls table G l = refl
 
 module _ (ts : List Term) (ls : List Literal) (table : List Term) (G : Graph) (s t : ℕ) where
   -- in B the path clauses of the path between the sides

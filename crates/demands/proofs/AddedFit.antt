@@ -3,31 +3,25 @@ use mathlib.Core.List.{List, List·Memᴰ}
 use mathlib.Core.Path.{_≡_, refl, sym, ap, subst, _∙_}
 use Prim.Native.Nat.{ℕ, _+_, _*_, _≤_, _<_}
 use native.Mathlib.Omega.{arith}
-use lib.Dec.{T, ltb, ltb→lt, nltb→le, lit<}
-use lib.ListN.{length, getD, drop, length-append, length-map, length-take, List·getD-eq-default}
+use lib.Dec.{T, lit<}
+use lib.ListN.{length, getD, drop, length-append, length-map, length-take}
 use lib.Seq.{getD-take, getD-drop, getD-append-add}
 use Rattle.tables.specs.Terms.{Term, noTerm, termAt}
 use Rattle.tables.specs.TermTable.{termCount, termRecord, symbolField, arityField, termOf, termsOf}
 use Rattle.tables.specs.LiteralTable.{literalsOf}
-use Rattle.tables.proofs.Words.{by-test, passes, fails, getD-mem, mem-getD}
+use Rattle.tables.proofs.Words.{mem-getD}
 use Rattle.tables.specs.Bytes.{AllBytes}
 use Rattle.tables.proofs.Terms.{termAt-append}
 use Rattle.tables.proofs.Colours.{inUse-within}
 use Rattle.tables.proofs.Sound.{SoundTables, length-termsOf, termAt-termsOf, arity-small, lower-arguments, sides-within}
 use Rattle.closure.specs.Graph.{Graph, joinedPairwise}
+use Rattle.tables.proofs.WordBytes.{byte-small}
 use Rattle.closure.specs.Steps.{State, tableOf, Run}
 use Rattle.closure.proofs.Running.Congruent.{pairwise-agree, congruent-symbol, congruent-arguments}
 use Rattle.closure.proofs.Running.Vertices.{added-vertex}
 use Rattle.closure.proofs.Running.Runs.{run-sound, run-known}
 use Rattle.closure.proofs.Running.FewSteps.{few-added}
 use Rattle.demands.proofs.AddedTerms.{TermFits}
-
--- a byte of a table is below 256, and so is what stands for one that is not there
-byte-small : (bs : List ℕ) → AllBytes bs → (i : ℕ) → getD bs i 0 < 256
-byte-small bs all i =
-    by-test (ltb i (length bs))
-    (λ e. all (getD bs i 0) (getD-mem bs i 0 (ltb→lt i (length bs) (passes (ltb i (length bs)) e))))
-    (λ e. subst (λ (b : ℕ). b < 256) (sym (List·getD-eq-default bs 0 (nltb→le i (length bs) (fails (ltb i (length bs)) e)))) (lit< tt))
 
 -- a symbol field fits two bytes
 symbol-small : (bs : List ℕ) → AllBytes bs → (k : ℕ) → symbolField (termRecord bs k) < 65536

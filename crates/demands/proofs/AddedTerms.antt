@@ -1,17 +1,15 @@
 -- The records of the added terms: what is written is a term record of document 01 that describes the term.
-use mathlib.Core.Bool.{Bool, false, not, _&&_, _||_}
 use mathlib.Core.List.{List, [], _∷_, _++_, map, flatMap, append-nil, map-map, map-id, map-append, List·Memᴰ, List·Memᴰ·head, List·Memᴰ·tail, Memᴰ·of-map}
 use mathlib.Core.Path.{_≡_, refl, sym, ap, ap₂, subst, _∙_}
-use Prim.Native.Nat.{ℕ, zero, suc, _+_, _*_, _%_, _≤_, _<_}
+use Prim.Native.Nat.{ℕ, zero, suc, _+_, _-_, _*_, _%_, _≤_, _<_}
 use native.Mathlib.Omega.{arith}
-use lib.Dec.{T, eqb, ltb, leb, not-T, ltb→lt, leb→le}
 use lib.ListN.{length, getD, take, length-append, length-map, List·getD-eq-default, List·getD-map}
-use Rattle.tables.specs.Words.{below, any}
-use Rattle.tables.specs.Tests.{someBelow, arityWrong, spareWrong, notLower, unusedNotZero, breaksLayout}
-use Rattle.tables.specs.Bytes.{recordAt, wordBytes, AllBytes}
+use Rattle.tables.specs.Words.{below}
+use Rattle.tables.specs.Rows.{LayoutFault, arity-over-four, byte-three, last-bytes, argument-not-lower, unused-not-zero}
+use Rattle.tables.specs.Bytes.{byteAt, recordAt, wordBytes, AllBytes}
 use Rattle.tables.specs.Terms.{Term, noTerm, termAt}
 use Rattle.tables.specs.TermTable.{termRecord, symbolField, arityField, argumentField, rowOf, termCount, termOf, termsOf}
-use Rattle.tables.proofs.Words.{and-left, and-right, failed, getD-mem, below-mem, someBelow-some}
+use Rattle.tables.proofs.Words.{getD-mem, below-mem}
 use Rattle.tables.proofs.Terms.{map-agree}
 use Rattle.tables.proofs.WordBytes.{word-value, bytes-none, bytes-cons, bytes-append, bytes-flatMap, wordBytes-bytes, record-read, records-read, records-length, record-behind, records-behind}
 use Rattle.demands.specs.Buffers.{termBytes}
@@ -99,51 +97,35 @@ termBytes-termOf m w = λ i. record { symbol = termBytes-symbol m (w .symbol-fit
 
 -- ---- the record breaks no layout
 
--- a test that cannot pass fails
-none-of : (b : Bool) → (T b → ⊥) → b ≡ false
-none-of b h = failed b (not-T b h)
-
--- "arity (0 to 4)"
-pub termBytes-arity-right : (m : Term) → length (m .arguments) ≤ 4 → arityWrong (termBytes m) ≡ false
-unfolding arityWrong
-termBytes-arity-right m h = none-of (ltb 4 (arityField (termBytes m))) (λ k. omega (arith, termBytes-arity m, ltb→lt 4 (arityField (termBytes m)) k))
-
 -- "3 zero", "12-15 zero"
-pub termBytes-spare : (m : Term) → spareWrong (termBytes m) ≡ false
-unfolding spareWrong any laid
-termBytes-spare m = ap spareWrong (termBytes-laid m)
+termBytes-third : (m : Term) → byteAt (termBytes m) 3 ≡ 0
+unfolding laid
+termBytes-third m = ap (λ (r : List ℕ). byteAt r 3) (termBytes-laid m)
 
--- "Every argument is lower than the record's own number"
-pub termBytes-lower : (m : Term) → TermFits m → (k : ℕ) → ((a : ℕ) → List·Memᴰ a (m .arguments) → a < k) → someBelow (notLower k (termBytes m)) 4 ≡ false
-unfolding notLower
-termBytes-lower m w k low = none-of (someBelow (notLower k (termBytes m)) 4) (λ h. let r = someBelow-some (notLower k (termBytes m)) 4 h in go (r .0) (r .1) (r .2))
+termBytes-last : (m : Term) (i : ℕ) → i < 4 → byteAt (termBytes m) (12 + i) ≡ 0
+unfolding laid
+termBytes-last m i h = ap (λ (r : List ℕ). byteAt r (12 + i)) (termBytes-laid m) ∙ go i h
   where
-    go : (j : ℕ) → j < 4 → T (ltb j (arityField (termBytes m)) && leb k (argumentField (termBytes m) j)) → ⊥
-    go j h t =
-        let used = ltb→lt j (arityField (termBytes m)) (and-left (ltb j (arityField (termBytes m))) (leb k (argumentField (termBytes m) j)) t) in
-        let high = leb→le k (argumentField (termBytes m) j) (and-right (ltb j (arityField (termBytes m))) (leb k (argumentField (termBytes m) j)) t) in
-        let inside : j < length (m .arguments) = omega (arith, termBytes-arity m) in
-        omega (arith, termBytes-argument m (w .arguments-fit) j h, low (argumentAt m j) (getD-mem (m .arguments) j 0 inside))
+    go : (i : ℕ) → i < 4 → byteAt (laid (m .symbol) (length (m .arguments)) (argumentAt m 0) (argumentAt m 1) (argumentAt m 2) (argumentAt m 3)) (12 + i) ≡ 0
+    go zero k = refl
+    go (suc zero) k = refl
+    go (suc (suc zero)) k = refl
+    go (suc (suc (suc zero))) k = refl
+    go (suc (suc (suc (suc i)))) k = absurd (omega arith)
 
--- "Argument fields past the arity are zero"
-pub termBytes-unused : (m : Term) → TermFits m → someBelow (unusedNotZero (termBytes m)) 4 ≡ false
-unfolding unusedNotZero
-termBytes-unused m w = none-of (someBelow (unusedNotZero (termBytes m)) 4) (λ h. let r = someBelow-some (unusedNotZero (termBytes m)) 4 h in go (r .0) (r .1) (r .2))
-  where
-    go : (j : ℕ) → j < 4 → T (leb (arityField (termBytes m)) j && not (eqb (argumentField (termBytes m) j) 0)) → ⊥
-    go j h t =
-        let unused = leb→le (arityField (termBytes m)) j (and-left (leb (arityField (termBytes m)) j) (not (eqb (argumentField (termBytes m) j) 0)) t) in
-        let past : length (m .arguments) ≤ j = omega (arith, termBytes-arity m) in
-        let nought : argumentField (termBytes m) j ≡ 0 = termBytes-argument m (w .arguments-fit) j h ∙ List·getD-eq-default (m .arguments) 0 past in
-        subst (λ (x : ℕ). T (not (eqb x 0))) nought (and-right (leb (arityField (termBytes m)) j) (not (eqb (argumentField (termBytes m) j) 0)) t)
-
--- a table whose record k is a written term with arguments lower than k does not break the layout there
-pub termBytes-layout : (bs : List ℕ) (k : ℕ) (m : Term) → TermFits m → ((a : ℕ) → List·Memᴰ a (m .arguments) → a < k) → termRecord bs k ≡ termBytes m → breaksLayout bs k ≡ false
-unfolding breaksLayout
-termBytes-layout bs k m w low e = ap (λ (r : List ℕ). arityWrong r || spareWrong r || someBelow (notLower k r) 4 || someBelow (unusedNotZero r) 4) e ∙ none (arityWrong (termBytes m)) (spareWrong (termBytes m)) (someBelow (notLower k (termBytes m)) 4) (someBelow (unusedNotZero (termBytes m)) 4) (termBytes-arity-right m (w .few)) (termBytes-spare m) (termBytes-lower m w k low) (termBytes-unused m w)
-  where
-    none : (a b c d : Bool) → a ≡ false → b ≡ false → c ≡ false → d ≡ false → (a || b || c || d) ≡ false
-    none a b c d p q r s = rw (p, q, r, s)
+-- the record of a written term has no fault at a place above its arguments
+pub termBytes-layout : (k : ℕ) (m : Term) → TermFits m → ((a : ℕ) → List·Memᴰ a (m .arguments) → a < k) → LayoutFault k (termBytes m) → ⊥
+termBytes-layout k m w low (arity-over-four l) = omega (arith, termBytes-arity m, w .few)
+termBytes-layout k m w low (byte-three f) = f (termBytes-third m)
+termBytes-layout k m w low (last-bytes i a b f) =
+    let e : 12 + (i - 12) ≡ i = omega arith in
+    f (subst (λ (x : ℕ). byteAt (termBytes m) x ≡ 0) e (termBytes-last m (i - 12) (omega arith)))
+termBytes-layout k m w low (argument-not-lower j h a b) =
+    let inside : j < length (m .arguments) = omega (arith, termBytes-arity m) in
+    omega (arith, termBytes-argument m (w .arguments-fit) j h, low (argumentAt m j) (getD-mem (m .arguments) j 0 inside))
+termBytes-layout k m w low (unused-not-zero j h a f) =
+    let past : length (m .arguments) ≤ j = omega (arith, termBytes-arity m) in
+    f (termBytes-argument m (w .arguments-fit) j h ∙ List·getD-eq-default (m .arguments) 0 past)
 
 -- every byte of the record is a byte
 pub termBytes-bytes : (m : Term) → length (m .arguments) ≤ 4 → AllBytes (termBytes m)
@@ -202,8 +184,8 @@ table-read bs ms h w =
     count = omega (arith, length-append bs (addedBytes ms), addedBytes-length ms)
 
 -- and no record of an added term breaks the layout there, where its arguments are lower than its number
-pub added-layout : (bs : List ℕ) (ms : List Term) → length bs % 16 ≡ 0 → (i : ℕ) → i < length ms → TermFits (termAt ms i) → ((a : ℕ) → List·Memᴰ a (termAt ms i .arguments) → a < termCount bs + i) → breaksLayout (bs ++ addedBytes ms) (termCount bs + i) ≡ false
-added-layout bs ms h i k w low = termBytes-layout (bs ++ addedBytes ms) (termCount bs + i) (termAt ms i) w low place
+pub added-layout : (bs : List ℕ) (ms : List Term) → length bs % 16 ≡ 0 → (i : ℕ) → i < length ms → TermFits (termAt ms i) → ((a : ℕ) → List·Memᴰ a (termAt ms i .arguments) → a < termCount bs + i) → LayoutFault (termCount bs + i) (termRecord (bs ++ addedBytes ms) (termCount bs + i)) → ⊥
+added-layout bs ms h i k w low f = termBytes-layout (termCount bs + i) (termAt ms i) w low (subst (LayoutFault (termCount bs + i)) place f)
   where
     whole : length bs ≡ 16 * termCount bs
     whole = omega arith

@@ -4,7 +4,6 @@ pub mod Bench
 pub mod Applied
 pub mod Choices
 pub mod AddedTerms
-pub mod Critical
 pub mod Partition
 pub mod Ways
 pub mod AddedFit

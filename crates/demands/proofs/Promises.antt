@@ -38,6 +38,7 @@ use Rattle.clauses.specs.Truth.{Summarises}
 use Rattle.clauses.proofs.Interpolation.{summary-shared, summary-A, summary-B}
 use Rattle.clauses.proofs.Order.{OneEach, standing-true, shared-standing}
 use Rattle.clauses.proofs.OneClause.{summary-one-each, written-summarises}
+use Rattle.clauses.proofs.Critical.{critical-found, critical-none}
 use Rattle.demands.specs.declared.Answer.{Answer}
 use Rattle.demands.specs.declared.Answer.the-variants.{Consistent, Inconsistent, Refused}
 use Rattle.demands.specs.declared.Numbers.{Numbers}
@@ -49,7 +50,6 @@ use Rattle.demands.specs.Call.{refused, judged, Called}
 use Rattle.demands.specs.Demands.{Demand1, Classes, Demand2, Demand3, Demands}
 use Rattle.demands.proofs.AddedTerms.{addedBytes, addedBytes-length, table-read}
 use Rattle.demands.proofs.AddedFit.{added-fits}
-use Rattle.demands.proofs.Critical.{critical-found, critical-none}
 use Rattle.demands.proofs.Partition.{inClass, class-lowest, class-idle, class-joined, partition-read}
 use Rattle.demands.proofs.Ways.{Way, refused-way, answered-way, way, refusal-given, clauseBytesOf}
 

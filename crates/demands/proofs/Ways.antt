@@ -24,6 +24,7 @@ use Rattle.closure.proofs.Running.OwnRun.{own-run-never-stuck}
 use Rattle.clauses.specs.Reading.{literalAt, critical, summary, readBetween}
 use Rattle.clauses.specs.Records.{clauseRecords}
 use Rattle.clauses.proofs.Records.{clauseBytes-length}
+use Rattle.clauses.proofs.Pieces.{summary-read}
 use Rattle.demands.specs.Buffers.{Buffers, Returned, partitionBytes, termBytes}
 use Rattle.demands.specs.Verdicts.{Verdict, recordsIn, answered}
 use Rattle.demands.specs.Refusals.{Short, partition-short, added-short, clauses-short, rowsOf}
@@ -45,8 +46,8 @@ clauses-length ts ls st d = clauseBytes-length (length (tableOf ts st)) (summary
 
 -- the clause records of a disequality are those of the clauses read between its sides
 pub records-read : (ts : List Term) (ls : List Literal) (st : State) (l : Literal) → recordsIn ts ls st l ≡ clauseRecords (length (tableOf ts st)) (readBetween ts ls (tableOf ts st) (st .graph) (l .side) (l .left) (l .right))
-unfolding recordsIn summary
-records-read ts ls st l = refl
+unfolding recordsIn
+records-read ts ls st l = ap (clauseRecords (length (tableOf ts st))) (summary-read ts ls (tableOf ts st) (st .graph) l)
 
 -- ---- room
 

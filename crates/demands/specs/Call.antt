@@ -68,6 +68,10 @@ judged terms literals bs =
     let next = ended bs ts ls (ownRun ts ls) in
     afterChecks bs (checked terms literals) next
 
+-- the three buffers, for contracts, which have each by itself
+abbrev pub buffersOf : List ℕ → List ℕ → List ℕ → Buffers
+buffersOf partition added clauses = record { partition = partition; added = added; clauses = clauses }
+
 -- what every contract of the call says: all that comes back is that of the definition. The tables are byte slices, so their entries are bytes.
 pub record Called (terms literals : List ℕ) (bs : Buffers) (r : Returned) : Type 0 where
   pub returned : r ≡ judged terms literals bs

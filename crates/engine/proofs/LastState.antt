@@ -40,7 +40,7 @@ use Rattle.marking.specs.declared.edges.Columns.{Columns}
 use Rattle.demands.specs.Buffers.{writtenOver}
 use Rattle.demands.proofs.Ways.{records-read}
 use Rattle.engine.specs.Ending.{Ends, Decides, termsIn, literalsIn, recordsFor, Written, EndsIn, PlacesOf, ParentsOf}
-use Rattle.demands.proofs.Critical.{critical-found, critical-first}
+use Rattle.clauses.proofs.Critical.{critical-found, critical-first}
 use Rattle.engine.proofs.AddedRecords.{all-terms}
 use Rattle.engine.proofs.ParentEnds.{edges-drawn}
 

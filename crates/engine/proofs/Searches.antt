@@ -25,7 +25,7 @@ use Rattle.running.proofs.BasicSteps.{length-literals, left-is, right-is, kind-
 use Rattle.running.proofs.Showing.{shown-label}
 use Rattle.closure.proofs.Walking.Joined.{joined-by}
 use Rattle.clauses.specs.Reading.{literalAt, contradicted, critical}
-use Rattle.demands.proofs.Critical.{contradicted-by, critical-by}
+use Rattle.clauses.proofs.Critical.{contradicted-by, critical-by}
 use Rattle.demands.specs.Buffers.{classNumber, partitionBytes}
 use Rattle.engine.specs.Ending.{Ends, termsIn, literalsIn, metBy, classBy}
 

@@ -15,7 +15,7 @@ use tables::Check;
 use tables::Found;
 ghost use mathlib.Core.Path.{_≡_};
 ghost use Rattle.demands.specs.Answers.{numbersOf};
-ghost use Rattle.demands.specs.Call.{Called};
+ghost use Rattle.demands.specs.Call.{Called, buffersOf};
 
 // Any two byte strings, judged: the answer, and every byte of the lent buffers, are those of the definition. Row 8 stands before row 7. "The critical
 // disequality is the lowest record of kind 2 whose sides are joined when no step is left. None: consistent."
@@ -26,7 +26,7 @@ pub fn split(
     added: &mut [u8],
     clauses: &mut [u8],
 ) -> Answer
-    ensures { λ r. ⌜ Called (now (terms .entry)) (now (literals .entry)) (record { partition = now (partition .entry); added = now (added .entry); clauses = now (clauses .entry) }) (record { numbers = numbersOf r; buffers = record { partition = now (partition .exit); added = now (added .exit); clauses = now (clauses .exit) } }) ⌝ }
+    ensures { λ r. ⌜ Called (now (terms .entry)) (now (literals .entry)) (buffersOf (now (partition .entry)) (now (added .entry)) (now (clauses .entry))) (record { numbers = numbersOf r; buffers = buffersOf (now (partition .exit)) (now (added .exit)) (now (clauses .exit)) }) ⌝ }
 {
     let t = reading::read(terms, literals);
     let check = t.check;
@@ -108,7 +108,7 @@ pub extern "C" fn anahruyk_split(
     added: &mut [u8],
     clauses: &mut [u8],
 ) -> Numbers
-    ensures { λ r. ⌜ Called (now (terms .entry)) (now (literals .entry)) (record { partition = now (partition .entry); added = now (added .entry); clauses = now (clauses .entry) }) (record { numbers = r; buffers = record { partition = now (partition .exit); added = now (added .exit); clauses = now (clauses .exit) } }) ⌝ }
+    ensures { λ r. ⌜ Called (now (terms .entry)) (now (literals .entry)) (buffersOf (now (partition .entry)) (now (added .entry)) (now (clauses .entry))) (record { numbers = r; buffers = buffersOf (now (partition .exit)) (now (added .exit)) (now (clauses .exit)) }) ⌝ }
 {
     let answer = split(terms, literals, partition, added, clauses);
     told(answer)

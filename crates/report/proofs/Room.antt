@@ -6,12 +6,13 @@ use Prim.Native.Nat.{ℕ, zero, suc, _+_, _*_, _/_, _%_, _^_, _≤_, _<_, min}
 use native.Mathlib.Nat.{pow-suc, mul-suc}
 use native.Mathlib.Omega.{arith}
 use lib.Dec.{eqb}
-use lib.ListN.{length, drop, length-append, length-map, length-drop, List·getD-eq-default}
+use lib.ListN.{length, drop, length-append, length-map, length-drop}
 use lib.Seq.{take-all}
 use borrow.Author.Tests.{eqb-true, eqb-false}
 use Rattle.tables.specs.Words.{below, Pair}
 use Rattle.tables.specs.Bytes.{AllBytes, byteAt, wordAt, recordAt, countOf}
-use Rattle.tables.proofs.Words.{by-test, below-or-not, getD-mem, below-mem, length-below}
+use Rattle.tables.proofs.Words.{by-test, below-mem, length-below}
+use Rattle.tables.proofs.WordBytes.{byte-small}
 use Rattle.clauses.specs.Clauses.{Clause}
 use Rattle.clauses.specs.ReadBack.{pairRead, conclusionRead, clausesAfter}
 use Rattle.clauses.proofs.Records.{equal-read, different-read, false-read, after-last, after-premise, after-conclusion, clauses-first}
@@ -49,11 +50,7 @@ five n h = digits-few 19 4 n (omega arith)
 twenty : (n : ℕ) → n < 2 ^ 64 → length (decimal n) ≤ 20
 twenty n h = digits-few 19 19 n (omega arith)
 
--- a byte of a buffer is below 256, and 0 behind its end
-byte-small : (bs : List ℕ) → AllBytes bs → (i : ℕ) → byteAt bs i < 256
-byte-small bs h i = ⊎-elim (λ l. h (byteAt bs i) (getD-mem bs i 0 l)) (λ l. omega (arith, List·getD-eq-default bs 0 l)) (below-or-not i (length bs))
-
--- so a word is below 65536
+-- a word of two bytes is below 65536
 word-small : (bs : List ℕ) → AllBytes bs → (i : ℕ) → wordAt bs i < 65536
 word-small bs h i = omega (arith, byte-small bs h i, byte-small bs h (i + 1))
 

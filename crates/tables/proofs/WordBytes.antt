@@ -5,11 +5,11 @@ use mathlib.Core.Path.{_≡_, refl, sym, ap, ap₂, subst, _∙_}
 use Prim.Native.Nat.{ℕ, zero, suc, _+_, _*_, _/_, _%_, _≤_, _<_}
 use native.Mathlib.Nat.{not-suc-le-zero, add-zero, add-suc, add-comm, mul-zero, mul-suc, mul-add, mul-le-mul-left}
 use native.Mathlib.Omega.{arith}
-use lib.ListN.{length, getD, take, drop, length-append, length-drop}
+use lib.ListN.{length, getD, take, drop, length-append, length-drop, List·getD-eq-default}
 use lib.Seq.{take-at, take-append-le, drop-append-le, drop-append-add}
 use Rattle.tables.specs.Words.{below}
-use Rattle.tables.specs.Bytes.{AllBytes, wordAt, recordAt, wordBytes}
-use Rattle.tables.proofs.Words.{flatMap-mem, below-mem}
+use Rattle.tables.specs.Bytes.{AllBytes, byteAt, wordAt, recordAt, wordBytes}
+use Rattle.tables.proofs.Words.{flatMap-mem, getD-mem, mem-getD, below-mem, below-or-not}
 use Rattle.tables.proofs.Terms.{map-agree}
 
 -- a number below 65536 is what its two bytes say
@@ -19,6 +19,14 @@ word-value n h = omega arith
 -- the two bytes of a number below 65536, whatever follows them, are read as the number
 pub word-read : (n : ℕ) (rest : List ℕ) → n < 65536 → wordAt (wordBytes n ++ rest) 0 ≡ n
 word-read n rest h = word-value n h
+
+-- a list of bytes holds a byte at each place, and 0 behind them
+pub byte-small : (bs : List ℕ) → AllBytes bs → (i : ℕ) → byteAt bs i < 256
+byte-small bs all i = ⊎-elim (λ l. all (byteAt bs i) (getD-mem bs i 0 l)) (λ l. omega (arith, List·getD-eq-default bs 0 l)) (below-or-not i (length bs))
+
+-- and where each place holds a byte it is one
+pub small-bytes : (bs : List ℕ) → ((i : ℕ) → byteAt bs i < 256) → AllBytes bs
+small-bytes bs f b m = let r = mem-getD 0 m in subst (λ (x : ℕ). x < 256) (r .2) (f (r .0))
 
 -- so it is of no bytes,
 pub bytes-none : AllBytes []

@@ -85,6 +85,15 @@ turned-hop (onward q) = backward (ap turned q)
 turned-hop (backward q) = onward (ap turned q)
 turned-hop (earlier k) = earlier (turned-hop k)
 
+-- of nothing it is nothing, and the first hop comes last
+pub backwards-none : backwards [] ≡ []
+unfolding backwards
+backwards-none = refl
+
+pub backwards-hop : (h : Hop) (π : Path) → backwards (h ∷ π) ≡ backwards π ++ (turned h ∷ [])
+unfolding backwards
+backwards-hop h π = refl
+
 -- backwards of two parts: the second comes first
 pub backwards-append : (π ρ : Path) → backwards (π ++ ρ) ≡ backwards ρ ++ backwards π
 unfolding backwards

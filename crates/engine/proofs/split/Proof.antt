@@ -4,7 +4,6 @@ use mathlib.Core.Logic.{⊎-elim}
 use mathlib.Core.Path.{_≡_, refl, sym, ap, subst, _∙_}
 use Prim.Native.Nat.{ℕ, _<_}
 use native.Mathlib.Omega.{arith}
-use lib.ListN.{getD}
 use types.Run.{OneOf}
 use denote.Enum.Declared.{tagOf}
 use Rattle.tables.specs.Bytes.{AllBytes}
@@ -14,7 +13,7 @@ use Rattle.tables.specs.declared.Check.{Check}
 use Rattle.tables.specs.declared.Check.the-variants.{Sound}
 use Rattle.tables.specs.declared.Tables.{Tables}
 use Rattle.tables.proofs.Check.{the-type}
-use Rattle.tables.proofs.Words.{mem-getD}
+use Rattle.tables.proofs.WordBytes.{small-bytes}
 use Rattle.tables.proofs.Sound.{read-check}
 use Rattle.running.specs.Opening.{ReadFrom}
 use Rattle.running.specs.Stepping.{Ends}
@@ -39,13 +38,9 @@ check-is terms literals t e = sym (ap (λ (x : Tables). x .check) e ∙ read-che
 no-key : OneOf (1 ∷ 2 ∷ 3 ∷ 4 ∷ 5 ∷ 6 ∷ []) 0 → ⊥
 no-key = ⊎-elim (λ e. omega arith) (⊎-elim (λ e. omega arith) (⊎-elim (λ e. omega arith) (⊎-elim (λ e. omega arith) (⊎-elim (λ e. omega arith) (λ e. omega arith)))))
 
--- the entries of a slice of bytes are bytes
-slice-bytes : (bs : List ℕ) → ((i : ℕ) → getD bs i 0 < 256) → AllBytes bs
-slice-bytes bs f b m = let r = mem-getD 0 m in subst (λ (x : ℕ). x < 256) (r .2) (f (r .0))
-
--- so are those of the two tables
+-- the entries of the two tables are bytes
 tables-bytes : (s : tie.After-shared-slice-known2) → AllBytes (s .before .before .args .terms .now) × AllBytes (s .before .before .args .literals .now)
-tables-bytes s = (slice-bytes _ (λ i. omega (arith, s .before .shared-slice-known .given i)), slice-bytes _ (λ i. omega (arith, s .shared-slice-known2 .given i)))
+tables-bytes s = (small-bytes _ (λ i. omega (arith, s .before .shared-slice-known .given i)), small-bytes _ (λ i. omega (arith, s .shared-slice-known2 .given i)))
 
 -- what comes back is that of the definition, and the tables are bytes
 called : {terms literals : List ℕ} {bs : Buffers} {r : Returned} → AllBytes terms × AllBytes literals → r ≡ judged terms literals bs → Called terms literals bs r
