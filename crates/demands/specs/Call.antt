@@ -31,12 +31,10 @@ tooShort bytes buffer = ltb (length buffer) (length bytes)
 
 -- consistent: "Room is judged after the verdict and only for the buffers that this verdict fills"
 unfoldable pub consistent : Buffers → List ℕ → Returned
-unfolding tooShort writtenOver
 consistent bs classes = cond (tooShort classes (bs .partition)) (refused bs 7 0) (withClasses bs classes)
 
 -- inconsistent: room, "the lower place first"
 unfoldable pub inconsistent : Buffers → ℕ → List (List ℕ) → List (List ℕ) → Returned
-unfolding tooShort writtenOver flatMap
 inconsistent bs disequality added records =
     cond (tooShort (flatMap (λ r. r) added) (bs .added)) (refused bs 7 1)
     (cond (tooShort (flatMap (λ r. r) records) (bs .clauses)) (refused bs 7 2)
@@ -44,24 +42,20 @@ inconsistent bs disequality added records =
 
 -- the verdict: consistent, or inconsistent by the critical disequality
 unfoldable pub verdict : Buffers → List Term → List Literal → State → Option ℕ → Returned
-unfolding consistent inconsistent partitionBytes termBytes recordsIn
 verdict bs ts ls st none = consistent bs (partitionBytes ts ls (st .graph))
 verdict bs ts ls st (some d) = inconsistent bs d (map termBytes (st .added)) (recordsIn ts ls st (literalAt ls d))
 
 -- row 8 stands before row 7: "a middle term is needed and a parent path has no shared term", place 0
 unfoldable pub ended : Buffers → List Term → List Literal → Option State → Returned
-unfolding verdict critical
 ended bs ts ls none = refused bs 8 0
 ended bs ts ls (some st) = verdict bs ts ls st (critical ls (st .graph))
 
 -- rows 1 to 6 come first: the number and place of the row that refuses
 unfoldable pub afterChecks : Buffers → Check → Returned → Returned
-unfolding numberOf placeIn
 afterChecks bs check next = cond (eqb (numberOf check) 0) next (refused bs (numberOf check) (placeIn check))
 
 -- the call on two tables and three lent buffers
 unfoldable pub judged : List ℕ → List ℕ → Buffers → Returned
-unfolding afterChecks ended ownRun
 judged terms literals bs =
     let ts = termsOf terms in
     let ls = literalsOf literals in
