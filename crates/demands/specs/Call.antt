@@ -18,7 +18,7 @@ use Rattle.closure.specs.OwnRun.{ownRun}
 use Rattle.clauses.specs.Reading.{literalAt, critical}
 use Rattle.demands.specs.declared.Answer.the-variants.{Refused}
 use Rattle.demands.specs.Answers.{numbersOf}
-use Rattle.demands.specs.Buffers.{Buffers, Returned, partitionBytes, termBytes, writtenOver}
+use Rattle.demands.specs.Buffers.{Buffers, Returned, partitionBytes, termBytes}
 use Rattle.demands.specs.Verdicts.{recordsIn, withClasses, withSummary}
 
 -- "A refusal returns its number and place .. and it changes no output byte."
