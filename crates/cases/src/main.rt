@@ -1,6 +1,8 @@
 // Runs the calls of data/cases.tab, one after the other, and prints what comes back: the answer, and the bytes written. The buffers are lent
 // filled with a pattern; a buffer in which a byte should have stayed and did not is told.
 
+#![tactic(auto)]
+
 ghost use Rattle.std.specs.Prelude.{◌<◌, ◌≤◌, length, true, ◌≡◌};
 
 use demands::Answer;

@@ -117,15 +117,15 @@ turned_factor_is π {f} m = subst (λ (fs : List Factor). Memᴰ (turned_factor 
 
 module _ (ts : List Term) (ls : List Literal) (table : List Term) where
   -- a premise of hops of a sound graph is one of the hops backwards
-  pub premise_backwards : (G : Graph) → SoundGraph ts ls table G → (p : Pair) {π : Path} → ((h : Hop) → Memᴰ h π → HopOf h G) → Premise table p π → Premise table p (backwards π)
-  premise_backwards G s p over (own {π = π} {f = f} m e q) = own (turned_factor_is π m) e (q ∙ between_swap f.from f.to)
-  premise_backwards G s p over (parent {π = π} {h = h} m e n o x) =
+  pub premise_backwards : (p : Pair) (G : Graph) → SoundGraph ts ls table G → {π : Path} → ((h : Hop) → Memᴰ h π → HopOf h G) → Premise table p π → Premise table p (backwards π)
+  premise_backwards p G s over (own {π = π} {f = f} m e q) = own (turned_factor_is π m) e (q ∙ between_swap f.from f.to)
+  premise_backwards p G s over (parent {π = π} {h = h} m e n o x) =
       let of = over h (factor_hop π m n) in
-      parent (turned_factor_is π m) e (mem_backwards n) (parent_back ts ls table (hop_sound ts ls table of s) o) (premise_backwards h.older (older_sound ts ls table s of) p (λ g k. parent_hop table h o k) x)
+      parent (turned_factor_is π m) e (mem_backwards n) (parent_back ts ls table (hop_sound ts ls table of s) o) (premise_backwards p h.older (older_sound ts ls table s of) (λ g k. parent_hop table h o k) x)
 
   -- so the path from the other end has the same premises
   pub premise_other_end : (G : Graph) → SoundGraph ts ls table G → (u v : ℕ) → T (joined G u v) → (p : Pair) → Premise table p (path G u v) ↔ Premise table p (path G v u)
   premise_other_end G s u v j p = (turn u v j, turn v u (joined_sym G u v j))
     where
       turn : (x y : ℕ) → T (joined G x y) → Premise table p (path G x y) → Premise table p (path G y x)
-      turn x y k q = subst (Premise table p) (sym (path_back G x y k)) (premise_backwards G s p (λ h m. path_hop G x y m) q)
+      turn x y k q = subst (Premise table p) (sym (path_back G x y k)) (premise_backwards p G s (λ h m. path_hop G x y m) q)

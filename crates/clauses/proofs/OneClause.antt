@@ -102,7 +102,9 @@ module _ (ts : List Term) (ls : List Literal) (table : List Term) where
   -- the premises of a path are pairs of terms of the table
   pub premise_within : (p : Pair) {G : Graph} {u v : ℕ} {π : Path} → SoundGraph ts ls table G → IsPath G u v π → Premise table p π → PairWithin (length table) p
   premise_within p s is (own m e q) = subst (PairWithin (length table)) (sym q) (factor_within s is m)
-  premise_within p s is (parent m e n o x) = premise_within p s (parent_in ts ls table s (factor_hop_of is.walk m n) o).2 x
+  premise_within p {G} {u} s is (parent m e n o x) =
+      let inner = parent_in ts ls table {G = G} s (factor_hop_of is.walk m n) o in
+      premise_within p {u = inner.0} s inner.2 x
 
   -- which the graph joins
   pub premise_connected : (p : Pair) {G : Graph} {u v : ℕ} {π : Path} → SoundGraph ts ls table G → Walk G u v π → Premise table p π → T (joined G p.left p.right)
@@ -127,7 +129,9 @@ module _ (ts : List Term) (ls : List Literal) (table : List Term) where
 
   -- a path clause of a path of the graph comes from a path of the graph
   pub clause_of_path : (c : Clause) {G : Graph} {u v : ℕ} {π : Path} → SoundGraph ts ls table G → IsPath G u v π → PathClause table c π → OfPath table G c
-  clause_of_path c s is (inside m e n o x) = clause_of_path c s (parent_in ts ls table s (factor_hop_of is.walk m n) o).2 x
+  clause_of_path c {G} {u} s is (inside m e n o x) =
+      let inner = parent_in ts ls table {G = G} s (factor_hop_of is.walk m n) o in
+      clause_of_path c {u = inner.0} s inner.2 x
   clause_of_path c {G} s is (whole {f = f} m e lists q) =
       let j = walk_joined (factor_walk is.walk m) in
       let premises-from = factor_premises_is s is m e c.premises lists in

@@ -1,5 +1,7 @@
 // The closure layer of document 01: what its definitions and theorems (specs/ and proofs/) say of an edge.
 
+#![tactic(auto)]
+
 use tables::Side;
 
 // Where an edge comes from.

@@ -1,5 +1,7 @@
 // What a call returns, and the demands on it: definitions and theorems (specs/ and proofs/) over the two types of an answer. The call itself is in the crate `engine`.
 
+#![tactic(auto)]
+
 // What comes back beside the lent buffers.
 #[derive(Drop)]
 pub enum Answer {

@@ -1,5 +1,7 @@
 // The engine of document 01: the call on two tables and three lent buffers.
 
+#![tactic(auto)]
+
 mod added;
 mod answers;
 mod bytes;

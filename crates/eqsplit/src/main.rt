@@ -1,5 +1,7 @@
 // The program over the engine: reads `terms.tab` and `literals.tab`, at most 4,112 and 8,200 bytes of them, judges what it read, and prints.
 
+#![tactic(auto)]
+
 use files::Got;
 use libc::{STDERR_FILENO, STDOUT_FILENO};
 

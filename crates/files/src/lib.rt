@@ -1,6 +1,8 @@
 // Bytes in and out, for the programs. A call that fails is told from the end of the input, one that a signal interrupts is made again, and one that
 // moves a part only is followed by a call for the rest.
 
+#![tactic(auto)]
+
 mod calls;
 
 ghost use Rattle.std.specs.Prelude.{◌≤◌, length};

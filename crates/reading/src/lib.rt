@@ -1,5 +1,7 @@
 // The two tables of document 01, read: any bytes in; the refusals 1 to 6 with their place, or the tables as arrays.
 
+#![tactic(auto)]
+
 pub mod arguments;
 mod arrays;
 mod bytes;

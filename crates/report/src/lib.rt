@@ -1,5 +1,7 @@
 // The text of an answer: the lines that eqsplit prints.
 
+#![tactic(auto)]
+
 mod added;
 mod classes;
 mod fields;

@@ -1,5 +1,7 @@
 // The library's own run of closure steps over the tables read, as code on arrays.
 
+#![tactic(auto)]
+
 mod congruence;
 mod edge;
 pub mod run;

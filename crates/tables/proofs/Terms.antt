@@ -76,16 +76,16 @@ unfolding parts
 parts_law ts low t h = down_law (λ t term below. t ∷ flat_map (λ ps. ps) below) [] ts low t h
 
 -- and the other way round
-pub part_mem : (ts : List Term) → LowerArguments ts → {t u : ℕ} → t < length ts → Part ts u t → Memᴰ u (parts ts t)
-part_mem ts low {t} h itself = subst (λ l. Memᴰ t l) (sym (parts_law ts low t h)) (Memᴰ.head refl)
-part_mem ts low {t} {u} h (deeper {a = a} m p) =
+pub part_mem : (ts : List Term) → LowerArguments ts → {u t : ℕ} → t < length ts → Part ts u t → Memᴰ u (parts ts t)
+part_mem ts low {u} {t} h itself = subst (λ l. Memᴰ t l) (sym (parts_law ts low t h)) (Memᴰ.head refl)
+part_mem ts low {u} {t} h (deeper {a = a} m p) =
     subst (λ l. Memᴰ u l) (sym (parts_law ts low t h)) (Memᴰ.tail (mem_flat_map (λ ps. ps) (Memᴰ.map (parts ts) m) (part_mem ts low (omega (arith, low t h a m)) p)))
 
-pub part_le : (ts : List Term) → LowerArguments ts → {t u : ℕ} → t < length ts → Part ts u t → u ≤ t
-part_le ts low {t} h itself = le_refl t
-part_le ts low {t} h (deeper {a = a} m p) = omega (arith, low t h a m, part_le ts low (omega (arith, low t h a m)) p)
+pub part_le : (ts : List Term) → LowerArguments ts → {u t : ℕ} → t < length ts → Part ts u t → u ≤ t
+part_le ts low {u} {t} h itself = le_refl t
+part_le ts low {u} {t} h (deeper {a = a} m p) = omega (arith, low t h a m, part_le ts low (omega (arith, low t h a m)) p)
 
-pub part_trans : (ts : List Term) {t u w : ℕ} → Part ts u t → Part ts w u → Part ts w t
+pub part_trans : (ts : List Term) {w u t : ℕ} → Part ts u t → Part ts w u → Part ts w t
 part_trans ts itself q = q
 part_trans ts (deeper m p) q = deeper m (part_trans ts p q)
 

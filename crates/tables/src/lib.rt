@@ -1,5 +1,7 @@
 // The two tables of document 01: what its definitions and theorems (specs/ and proofs/) say of their bytes, and the types that hold them.
 
+#![tactic(auto)]
+
 // A literal is marked A or B, and so is an edge of the graph.
 #[derive(Drop)]
 pub enum Side {

@@ -89,6 +89,7 @@ literal_joined l st k =
 -- after all of them the sides of every equality are joined
 pub basic_steps_join : (more : List Literal) (st : State) (l : Literal) → Memᴰ l more → l.kind ≡ equal → T (joined (basic_steps more st).graph l.left l.right)
 unfolding basic_steps
+basic_steps_join [] st x x3 k = elim x3 [ ]
 basic_steps_join (l ∷ more) st x (Memᴰ.head e) k =
     basic_steps_stay more (after_literal l st) x.left x.right
     (subst (λ (y : Literal). T (joined (after_literal l st).graph y.left y.right)) (sym e) (literal_joined l st (sym (ap (λ (y : Literal). y.kind) e) ∙ k)))
