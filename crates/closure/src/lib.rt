@@ -5,14 +5,14 @@
 use tables::Side;
 
 // Where an edge comes from.
-#[derive(Drop)]
+#[derive(Clone, Copy)]
 pub enum EdgeKind {
     Basic,
     Derived,
 }
 
 // "A graph edge is one record holding ends, colour and kind."
-#[derive(Drop)]
+#[derive(Clone, Copy)]
 pub struct Edge {
     pub left: u16,
     pub right: u16,

@@ -3,7 +3,7 @@
 #![tactic(auto)]
 
 // What comes back beside the lent buffers.
-#[derive(Drop)]
+#[derive(Clone, Copy)]
 pub enum Answer {
     Consistent,
     Inconsistent {
@@ -20,7 +20,7 @@ pub enum Answer {
 // The answer for C, which knows no enum: the verdict (0 consistent, 1 inconsistent, 2 refused), and the numbers of document 01; those of the
 // other verdicts are 0.
 #[repr(C)]
-#[derive(Drop)]
+#[derive(Clone, Copy)]
 pub struct Numbers {
     pub verdict: usize,
     pub number: usize,

@@ -6,7 +6,7 @@ ghost use Rattle.graphs.specs.Layout.{no_edge, edges_of};
 use closure::{Edge, EdgeKind};
 use tables::Side;
 
-#[derive(Drop)]
+#[derive(Clone, Copy)]
 pub struct Graph {
     pub edges: [Edge; 510],
     pub count: usize,

@@ -5,7 +5,7 @@ ghost use Rattle.closure.specs.Graph.{Graph};
 ghost use Rattle.graphs.specs.Trails.{Joining, TrailOf, Room, trail};
 
 // The vertices that the path stands on, and the edges between them.
-#[derive(Drop)]
+#[derive(Clone, Copy)]
 pub struct Trail {
     pub stops: [u16; 511],
     pub edges: [u16; 511],

@@ -9,7 +9,7 @@ ghost use Rattle.graphs.specs.Rooting.{RootedBy, rooting, Growing, Closed};
 use super::graph::Graph;
 
 // rank is 0 where a vertex is not reached yet, 1 at a root, and one more than the neighbour's toward the root.
-#[derive(Drop)]
+#[derive(Clone, Copy)]
 pub struct Rooting {
     pub toward: [u16; 511],
     pub by: [u16; 511],

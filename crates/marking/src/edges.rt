@@ -11,7 +11,7 @@ use closure::{Edge, EdgeKind};
 use tables::Side;
 
 // What the edges hold, a column for each part, under the edge's number.
-#[derive(Drop)]
+#[derive(Clone, Copy)]
 pub struct Columns {
     pub lefts: [u16; 510],
     pub rights: [u16; 510],

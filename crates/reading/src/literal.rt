@@ -7,7 +7,7 @@ ghost use Rattle.reading.specs.Fields.{fields_of};
 use super::{bytes, literal_table};
 
 // "0 side (1 = A, 2 = B); 1 kind (1 equal, 2 different); 2-3 left; 4-5 right".
-#[derive(Drop)]
+#[derive(Clone, Copy)]
 pub struct Fields {
     pub side: u8,
     pub kind: u8,

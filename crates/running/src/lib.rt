@@ -10,7 +10,7 @@ pub mod state;
 mod step;
 
 // "The arguments are worked on as a row of four for each term."
-#[derive(Drop)]
+#[derive(Clone, Copy)]
 pub struct Row {
     pub args: [u16; 4],
 }

@@ -12,14 +12,14 @@ ghost use Rattle.running.specs.declared.state.State.{State as Arrays};
 use super::{Row, congruence};
 
 // A number that a search finds.
-#[derive(Drop)]
+#[derive(Clone, Copy)]
 pub enum Next {
     At(usize),
     Nothing,
 }
 
 // Two terms that a search finds.
-#[derive(Drop)]
+#[derive(Clone, Copy)]
 pub enum Pair {
     Of(usize, usize),
     Nothing,

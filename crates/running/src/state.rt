@@ -5,7 +5,7 @@ use graphs::graph::Graph;
 
 // The table has the given terms first and the added ones after them. A given term not in use is no vertex. A run is stuck at row 8: "a middle term is
 // needed and a parent path has no shared term". That is a field of the state, since a struct around the state would copy it once more on its way out.
-#[derive(Drop)]
+#[derive(Clone, Copy)]
 pub struct State {
     pub terms: usize,
     pub symbols: [u16; 511],

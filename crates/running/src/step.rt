@@ -21,7 +21,7 @@ use graphs::{paths, rooting};
 use tables::Side;
 
 // A vertex that a search meets.
-#[derive(Drop)]
+#[derive(Clone, Copy)]
 pub enum Met {
     At(u16),
     Nothing,
@@ -44,7 +44,7 @@ fn first_shared(colours: &[u8; 511], stops: &[u16; 511], hops: usize) -> Met
 }
 
 // A shared term for each argument, or none where a parent path has no shared term.
-#[derive(Drop)]
+#[derive(Clone, Copy)]
 pub struct Choice {
     pub stuck: bool,
     pub row: Row,
@@ -179,7 +179,7 @@ fn middle_step(mut st: State, s: u16, t: u16) -> State
 }
 
 // The colour of a derived edge, or that it has none.
-#[derive(Drop)]
+#[derive(Clone, Copy)]
 pub enum Colouring {
     Of(Side),
     Middle,

@@ -3,14 +3,14 @@
 #![tactic(auto)]
 
 // A literal is marked A or B, and so is an edge of the graph.
-#[derive(Drop)]
+#[derive(Clone, Copy)]
 pub enum Side {
     A,
     B,
 }
 
 // What the checks of rows 1 to 6 say: sound, or the row that refuses, with its place.
-#[derive(Drop)]
+#[derive(Clone, Copy)]
 pub enum Check {
     Sound,
     Length(usize),
@@ -22,7 +22,7 @@ pub enum Check {
 }
 
 // The place that a row refuses at, if it refuses.
-#[derive(Drop)]
+#[derive(Clone, Copy)]
 pub enum Found {
     At(usize),
     Nothing,
@@ -31,7 +31,7 @@ pub enum Found {
 // The tables as they were read; where they are refused, only the check says something and all else is 0. Past the count the arrays
 // hold 0. The arguments stand beside this struct, as an array of rows of four; the literals stay in their bytes, where each layer
 // reads them.
-#[derive(Drop)]
+#[derive(Clone, Copy)]
 pub struct Tables {
     pub check: Check,
     pub terms: usize,

@@ -1,0 +1,13 @@
+-- `graphs::rooting::rooted` meets its contract: every pass but the last reaches more of the 511 vertices, and after the last no edge leads on.
+use native.Mathlib.Omega.{arith}
+use Prim.Native.Nat.{◌-◌}
+use Rattle.graphs.specs.Layout.{edges_of}
+use Rattle.graphs.specs.Rooting.{rooting, Growing}
+use Rattle.graphs.proofs.Rooted.{all_rooted, reached_within}
+use Rattle.graphs.proofs.rooting.rooted.Given as goal
+
+abbrev pub invariant-loop-reached : goal.invariant-loop-reached
+invariant-loop-reached l = Growing (edges_of l.graph) (rooting l.toward l.by l.rank l.reached)
+
+abbrev pub decreases-loop-reached : goal.decreases-loop-reached
+decreases-loop-reached l = 511 - l.reached

@@ -1,0 +1,15 @@
+-- `reading::bytes::same` meets its contract. The invariant: the bytes passed are the same in both. The measure is what is left of the length.
+use mathlib.Core.Path.{◌≡◌, sym}
+use Prim.Native.Nat.{ℕ, ◌≤◌, ◌<◌, ◌-◌}
+use native.Mathlib.Omega.{arith}
+use lib.ListN.{length, get_or}
+use borrow.Author.Count.{below_more}
+use borrow.Author.Rules.{rules}
+use Rattle.tables.proofs.Records.{differ, agree}
+use Rattle.reading.proofs.bytes.same.Given as goal
+
+abbrev pub invariant-loop-i : goal.invariant-loop-i
+invariant-loop-i l = (l.i ≤ length l.a) × ((k : ℕ) → k < l.i → get_or l.a k 0 ≡ get_or l.b k 0)
+
+abbrev pub decreases-loop-i : goal.decreases-loop-i
+decreases-loop-i l = length l.a - l.i

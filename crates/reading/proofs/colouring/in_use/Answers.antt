@@ -1,0 +1,21 @@
+-- `in_use` meets its contract: the entries passed are filled.
+use mathlib.Core.Bool.{Bool, false, ◌||◌}
+use mathlib.Core.Logic.{⊎_elim}
+use mathlib.Core.Path.{◌≡◌, sym, ap, ◌∙◌}
+use lib.ListN.{get_or}
+use Prim.Native.Nat.{◌-◌}
+use native.Mathlib.Omega.{arith}
+use Rattle.tables.proofs.Records.{Filling, filling_none, filling_more, filling_all}
+use Rattle.reading.proofs.colouring.in_use.Goals as goal
+
+pub loop-t-init : goal.loop-t-init
+loop-t-init c = filling_none 256 false _ _
+
+pub loop-t-preserved : goal.loop-t-preserved
+loop-t-preserved c = let a = c.args in
+    let i = c.loop-t in
+    let q : c.if-a-t.column ≡ (get_or a.a.now i.t false || get_or a.b.now i.t false) = ⊎_elim (λ w. w.1 ∙ w.0.taken ∙ ap (λ (x : Bool). x || get_or a.b.now i.t false) (sym w.0.taken)) (λ w. w.2 ∙ ap (λ (x : Bool). x || get_or a.b.now i.t false) (sym w.0.left)) c.if-a-t.branch in
+    filling_more _ _ _ _ _ _ _ (omega arith) i.invariant c.loop-t-test.true q
+
+pub returns : goal.returns
+returns c = filling_all _ _ _ _ _ _ _ (omega arith) c.loop-t.invariant c.loop-t-test.false

@@ -1,0 +1,12 @@
+-- `reading::earlier::had_key` meets its contract. The invariant: what was found is whether a record passed has the key. The measure is what is left of them.
+use Prim.Native.Nat.{◌-◌}
+use native.Mathlib.Omega.{arith}
+use Rattle.reading.specs.Keys.{same_key}
+use Rattle.tables.proofs.Records.{SoFar, so_far, so_far_more, so_far_all}
+use Rattle.reading.proofs.earlier.had_key.Given as goal
+
+abbrev pub invariant-loop-j : goal.invariant-loop-j
+invariant-loop-j l = SoFar (same_key l.keys l.k) l.k l.j l.found
+
+abbrev pub decreases-loop-j : goal.decreases-loop-j
+decreases-loop-j l = l.k - l.j

@@ -1,0 +1,29 @@
+-- `reading::earlier::repeated_row` meets its contract. The invariant: no record passed equals an earlier one. The measure is what is left of them.
+use mathlib.Core.Logic.{⊎_elim}
+use mathlib.Core.Path.{refl}
+use Prim.Native.Nat.{◌-◌}
+use native.Mathlib.Omega.{arith}
+use Rattle.tables.specs.Tests.{equals_earlier}
+use Rattle.tables.specs.Checks.{repeated_row}
+use Rattle.tables.proofs.Records.{NotYet, not_yet, first_found, not_more, not_found}
+use Rattle.reading.proofs.Keys.{no_key}
+use Rattle.reading.proofs.earlier.repeated_row.Goals as goal
+
+pub loop-k-init : goal.loop-k-init
+loop-k-init c = not_yet _ _
+
+pub returns-then-equals_earlier : goal.returns-then-equals_earlier
+unfolding repeated_row
+returns-then-equals_earlier c = first_found _ _ _ _ c.loop-k.invariant c.loop-k-test.true c.equals_earlier.ensures c.if-equals_earlier.true
+
+pub loop-k-preserved : goal.loop-k-preserved
+loop-k-preserved c = let inv = c.loop-k.invariant in
+    let taken = c.loop-k-test.true in
+    ⊎_elim
+    (λ w. not_more _ _ _ _ inv taken w.1.ensures w.2.left)
+    (λ w. not_more _ _ _ _ inv taken (no_key _ _ taken c.requires _ _ c.record_keys-keys.ensures c.had_key.ensures w.left) refl)
+    c.else-had_key.branch
+
+pub returns : goal.returns
+unfolding repeated_row
+returns c = not_found _ _ _ c.loop-k.invariant c.loop-k-test.false
