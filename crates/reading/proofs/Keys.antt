@@ -42,5 +42,5 @@ module _ (bs : List ℕ) (k : ℕ) (h : k < term_count bs) (fits : term_count bs
       none : T (equals_earlier bs k) → ⊥
       none t =
           let w = some_below_some (equal_records bs k) k t in
-          let same_key : get_or keys w.0 0 ≡ get_or keys k 0 = key_at w.0 (omega arith) ∙ ap record_key (same_eq (term_record bs w.0) (term_record bs k) w.2) ∙ sym (key_at k (omega arith)) in
-          subst T (sym e ∙ f) (some_some_below (same_key keys k) k w.0 w.1 ((eq_test (get_or keys w.0 0) (get_or keys k 0)).1 same_key))
+          let keys_same : get_or keys w.0 0 ≡ get_or keys k 0 = key_at w.0 (omega arith) ∙ ap record_key (same_eq (term_record bs w.0) (term_record bs k) w.2) ∙ sym (key_at k (omega arith)) in
+          subst T (sym e ∙ f) (some_some_below (same_key keys k) k w.0 w.1 ((eq_test (get_or keys w.0 0) (get_or keys k 0)).1 keys_same))

@@ -169,9 +169,9 @@ module _ (rows : List (List ℕ)) (arities ls : List ℕ) (side : ℕ) where
 -- ---- marks and parts
 
 -- where whatever is marked has its arguments marked, the parts of a marked term are marked
-pub part_marked : (rows : List (List ℕ)) (arities : List ℕ) (ts : List Term) → Describes rows arities ts → (marks : List Bool) → Closed rows arities marks → {t u : ℕ} → Part ts u t → Marked marks t → Marked marks u
+pub part_marked : (rows : List (List ℕ)) (arities : List ℕ) (ts : List Term) → Describes rows arities ts → (marks : List Bool) → Closed rows arities marks → {u t : ℕ} → Part ts u t → Marked marks t → Marked marks u
 part_marked rows arities ts d marks x itself m = m
-part_marked rows arities ts d marks x {t} (deeper {a = a} k p) m = part_marked rows arities ts d marks x p (x t m a (subst (Memᴰ a) (sym (d t)) k))
+part_marked rows arities ts d marks x {u} {t} (deeper {a = a} k p) m = part_marked rows arities ts d marks x p (x t m a (subst (Memᴰ a) (sym (d t)) k))
 
 module _ (rows : List (List ℕ)) (arities : List ℕ) (low : LowerRows rows arities) (ts : List Term) (d : Describes rows arities ts) (small : length ts ≤ 256) where
   -- arguments are lower in the terms, since they are in the rows

@@ -6,26 +6,18 @@ use mathlib.Core.Path.{◌≡◌, sym, ap, subst, ◌∙◌}
 use Prim.Native.Nat.{ℕ}
 use native.Mathlib.Omega.{arith}
 use lib.Dec.{eqb}
-use types.Run.{OneOf}
-use denote.Enum.Declared.{tag_of}
 use borrow.Author.Rules.{rules}
 use Rattle.tables.specs.Checks.{checked, number_of}
 use Rattle.tables.specs.Read.{sound_tables, refused_tables, tables_read}
 use Rattle.tables.specs.declared.Tables.{Tables}
 use Rattle.tables.specs.declared.Check.{Check}
 use Rattle.tables.specs.declared.Check.TheVariants.{Sound}
-use Rattle.tables.specs.contracts.Check.{the_type}
 use Rattle.tables.proofs.Sound.{refused_number}
 use Rattle.reading.proofs.read.Goals as goal
 
--- `read` meets its contract: the check is sound, or it has a number.
 -- the tables by what the check says
 abbrev read_by : Check → List ℕ → List ℕ → Tables
 read_by check bs ls = cond (eqb (number_of check) 0) (sound_tables check bs ls) (refused_tables check)
-
--- the variants after the first have other numbers than it
-no_key : OneOf (1 ∷ 2 ∷ 3 ∷ 4 ∷ 5 ∷ 6 ∷ []) 0 → ⊥
-no_key = ⊎_elim (λ e. omega arith) (⊎_elim (λ e. omega arith) (⊎_elim (λ e. omega arith) (⊎_elim (λ e. omega arith) (⊎_elim (λ e. omega arith) (λ e. omega arith)))))
 
 pub sound-requires : goal.sound-requires
 sound-requires c = sym c.check-check.ensures ∙ c.in-Sound.is
@@ -38,9 +30,9 @@ returns-in-Sound c = let a = c.args in
 
 pub returns-in_default : goal.returns-in_default
 unfolding tables_read
-returns-in_default c = let a = c.args in
+returns-in_default c =
+    let a = c.args in
     let k = c.check-check.result in
-    let n : k ≡ Sound → ⊥ = λ e. no_key (subst (λ (x : Check). OneOf (1 ∷ 2 ∷ 3 ∷ 4 ∷ 5 ∷ 6 ∷ []) (tag_of the_type x)) e c.in_default.keys2) in
     c.refused.ensures ∙
-    ap (λ (b : Bool). cond b (sound_tables k a.terms.now a.literals.now) (refused_tables k)) (sym (refused_number k n)) ∙
+    ap (λ (b : Bool). cond b (sound_tables k a.terms.now a.literals.now) (refused_tables k)) (sym (refused_number k c.in_default.not-Sound)) ∙
     ap (λ (x : Check). read_by x a.terms.now a.literals.now) c.check-check.ensures

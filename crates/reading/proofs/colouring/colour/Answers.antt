@@ -13,12 +13,11 @@ use Rattle.reading.proofs.Marks.{none_closed, all_parts}
 use Rattle.reading.proofs.colouring.colour.Goals as goal
 
 pub mark-requires : goal.mark-requires
-mark-requires c = none_closed 256 c.args.rows.now c.args.arities.now }
+mark-requires c = record { within = c.requires.t_bound; sized = length-replicate 256 false; low = c.requires.lower_rows; closed = none_closed 256 c.args.rows.now c.args.arities.now }
 
 pub returns : goal.returns
 returns c = λ ts d h small.
-    
     let a = c.args in
-    let marks = c.mark.new.1.1.0 in
-    let each : (occurring : List Bool) → not (some_below (marked_and_missing marks occurring) (a.t + 1)) ≡ every (λ u. get_or occurring u false) (parts ts a.t) = λ occurring. all_parts a.rows.now a.arities.now c.requires.before ts d small marks occurring a.t h c.mark.ensures in
-    c.parts_colour.ensures ∙ ap₂ (λ (x y : Bool). cond x 1 0 + cond y 2 0) (each a.in-a.now) (each a.in_b.now)
+    let marks = c.mark.new.marks in
+    let each : (occurring : List Bool) → not (some_below (marked_and_missing marks occurring) (a.t + 1)) ≡ every (λ u. get_or occurring u false) (parts ts a.t) = λ occurring. all_parts a.rows.now a.arities.now c.requires.lower_rows ts d small marks occurring a.t h c.mark.ensures in
+    c.parts_colour.ensures ∙ ap₂ (λ (x y : Bool). cond x 1 0 + cond y 2 0) (each a.in_a.now) (each a.in_b.now)

@@ -8,6 +8,7 @@ use Rattle.tables.specs.Checks.{repeated_row}
 use Rattle.tables.proofs.Records.{NotYet, not_yet, first_found, not_more, not_found}
 use Rattle.reading.proofs.Keys.{no_key}
 use Rattle.reading.proofs.earlier.repeated_row.Goals as goal
+use Rattle.reading.proofs.earlier.repeated_row.Goals.{else-had_key-via-then-had_key+else-equals_earlier, else-had_key-via-else-had_key}
 
 pub loop-k-init : goal.loop-k-init
 loop-k-init c = not_yet _ _
@@ -19,10 +20,10 @@ returns-then-equals_earlier c = first_found _ _ _ _ c.loop-k.invariant c.loop-k-
 pub loop-k-preserved : goal.loop-k-preserved
 loop-k-preserved c = let inv = c.loop-k.invariant in
     let taken = c.loop-k-test.true in
-    ⊎_elim
-    (λ w. not_more _ _ _ _ inv taken w.1.ensures w.2.left)
-    (λ w. not_more _ _ _ _ inv taken (no_key _ _ taken c.requires _ _ c.record_keys-keys.ensures c.had_key.ensures w.left) refl)
-    c.else-had_key.branch
+    elim c.else-had_key.branch [
+      | else-had_key-via-then-had_key+else-equals_earlier w ↦ not_more _ _ _ _ inv taken w.equals_earlier.ensures w.if-equals_earlier.false
+      | else-had_key-via-else-had_key w ↦ not_more _ _ _ _ inv taken (no_key _ _ taken c.requires _ _ c.record_keys-keys.ensures c.had_key.ensures w.if-had_key.false) refl
+    ]
 
 pub returns : goal.returns
 unfolding repeated_row

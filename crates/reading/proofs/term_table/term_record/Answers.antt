@@ -7,4 +7,4 @@ use Rattle.tables.proofs.Records.{part_is, record_length}
 use Rattle.reading.proofs.term_table.term_record.Goals as goal
 
 pub returns : goal.returns
-returns c = c.args in (part_is a.terms.now (16 * a.k) 16, ap length (part_is a.terms.now (16 * a.k) 16) ∙ record_length 16 a.terms.now a.k c.requires)
+returns c = let a = c.args in (part_is a.terms.now (16 * a.k) 16, ap length (part_is a.terms.now (16 * a.k) 16) ∙ record_length 16 a.terms.now a.k c.requires)
