@@ -1,12 +1,9 @@
 -- `read` meets its contract: the check is sound, or it has a number.
 use mathlib.Core.Bool.{Bool, cond}
-use mathlib.Core.List.{List, [], ◌∷◌}
-use mathlib.Core.Logic.{⊎_elim}
-use mathlib.Core.Path.{◌≡◌, sym, ap, subst, ◌∙◌}
+use mathlib.Core.List.{List}
+use mathlib.Core.Path.{◌≡◌, sym, ap, ◌∙◌}
 use Prim.Native.Nat.{ℕ}
-use native.Mathlib.Omega.{arith}
 use lib.Dec.{eqb}
-use borrow.Author.Rules.{rules}
 use Rattle.tables.specs.Checks.{checked, number_of}
 use Rattle.tables.specs.Read.{sound_tables, refused_tables, tables_read}
 use Rattle.tables.specs.declared.Tables.{Tables}

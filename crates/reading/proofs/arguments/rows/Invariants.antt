@@ -1,11 +1,8 @@
 -- `reading::arguments::rows` meets its contract. The invariant: the rows passed are filled. The measure is what is left of them.
 use mathlib.Core.List.{[], ◌∷◌}
-use mathlib.Core.Path.{ap, ◌∙◌}
 use Prim.Native.Nat.{◌-◌}
-use native.Mathlib.Omega.{arith}
 use Rattle.tables.specs.TermTable.{term_record, row_of}
-use Rattle.tables.specs.Read.{argument_rows}
-use Rattle.tables.proofs.Records.{Filling, filling_none, filling_more, filling_all}
+use Rattle.tables.proofs.Records.{Filling}
 use Rattle.reading.proofs.arguments.rows.Given as goal
 
 abbrev pub invariant-loop-k : goal.invariant-loop-k

@@ -1,8 +1,6 @@
 -- `reading::bytes::same` meets its contract. The invariant: the bytes passed are the same in both. The measure is what is left of the length.
-use mathlib.Core.Path.{◌≡◌, sym}
-use Prim.Native.Nat.{ℕ, ◌≤◌, ◌<◌, ◌-◌}
+use mathlib.Core.Path.{sym}
 use native.Mathlib.Omega.{arith}
-use lib.ListN.{length, get_or}
 use borrow.Author.Count.{below_more}
 use borrow.Author.Rules.{rules}
 use Rattle.tables.proofs.Records.{differ, agree}

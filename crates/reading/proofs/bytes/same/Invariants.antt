@@ -1,11 +1,7 @@
 -- `reading::bytes::same` meets its contract. The invariant: the bytes passed are the same in both. The measure is what is left of the length.
-use mathlib.Core.Path.{◌≡◌, sym}
+use mathlib.Core.Path.{◌≡◌}
 use Prim.Native.Nat.{ℕ, ◌≤◌, ◌<◌, ◌-◌}
-use native.Mathlib.Omega.{arith}
 use lib.ListN.{length, get_or}
-use borrow.Author.Count.{below_more}
-use borrow.Author.Rules.{rules}
-use Rattle.tables.proofs.Records.{differ, agree}
 use Rattle.reading.proofs.bytes.same.Given as goal
 
 abbrev pub invariant-loop-i : goal.invariant-loop-i

@@ -1,12 +1,8 @@
 -- `reading::checks::check` meets its contract. A row that found nothing leaves the answer to the rows after it; the first that found a place gives it.
-use mathlib.Core.List.{List}
-use mathlib.Core.Path.{◌≡◌, sym, ◌∙◌}
-use Prim.Native.Nat.{ℕ}
+use mathlib.Core.Path.{sym, ◌∙◌}
 use Rattle.tables.specs.Checks.{checked}
-use Rattle.tables.specs.declared.Check.{Check}
 use Rattle.tables.specs.declared.Check.TheVariants.{Length, Count}
-use Rattle.tables.proofs.Rows.{nothing_found, refuse_found, refuse_nothing, count_none, from2, from3}
-use borrow.Author.Rules.{rules}
+use Rattle.tables.proofs.Rows.{nothing_found, refuse_found, refuse_nothing, count_none}
 use Rattle.reading.proofs.checks.check.Goals as goal
 
 pub returns-in-At : goal.returns-in-At

@@ -3,7 +3,6 @@ use mathlib.Core.Path.{sym}
 use Rattle.tables.specs.Checks.{literal_row}
 use Rattle.tables.specs.declared.Check.TheVariants.{Literal}
 use Rattle.tables.proofs.Rows.{refuse_found, refuse_nothing}
-use borrow.Author.Rules.{rules}
 use Rattle.reading.proofs.checks.check_literals.Goals as goal
 
 pub returns-in-At : goal.returns-in-At

@@ -1,11 +1,7 @@
 -- `reading::checks::check_terms` meets its contract. A row that found nothing leaves the answer to the rows after it; the first that found a place gives it.
-use mathlib.Core.List.{List}
-use mathlib.Core.Path.{◌≡◌, sym, ◌∙◌}
-use Prim.Native.Nat.{ℕ}
-use Rattle.tables.specs.declared.Check.{Check}
+use mathlib.Core.Path.{sym, ◌∙◌}
 use Rattle.tables.specs.declared.Check.TheVariants.{Layout, Arity, Repeated}
-use Rattle.tables.proofs.Rows.{refuse_found, refuse_nothing, from3, from4, from5, from6}
-use borrow.Author.Rules.{rules}
+use Rattle.tables.proofs.Rows.{refuse_found, refuse_nothing}
 use Rattle.reading.proofs.checks.check_terms.Goals as goal
 
 pub returns-in-At : goal.returns-in-At

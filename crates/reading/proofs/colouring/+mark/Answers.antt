@@ -1,5 +1,5 @@
 -- The answers of `mark`: an argument is lower than its term and below 256, and what the loop marked is whole once all arguments were passed.
-use Rattle.std.proofs.Common.{arith, refl, ◌∙◌, ◌≡◌, ◌<◌, subst, get_or}
+use Rattle.std.proofs.Common.{arith, refl, ◌∙◌, ◌≡◌, subst, get_or}
 use Rattle.reading.proofs.Marks.{MarkedUpTo, field_lower, up_more, up_all}
 use Rattle.reading.proofs.colouring.+mark.Goals as goal
 

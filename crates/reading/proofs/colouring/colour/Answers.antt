@@ -4,7 +4,6 @@ use lib.ListN.{get_or, length-replicate}
 use mathlib.Core.Bool.{Bool, false, not, cond}
 use mathlib.Core.Path.{◌≡◌, ap₂, ◌∙◌}
 use Prim.Native.Nat.{◌+◌}
-use borrow.Author.Rules.{rules}
 use Rattle.tables.specs.Words.{every}
 use Rattle.tables.specs.Tests.{some_below}
 use Rattle.tables.specs.Terms.{parts}

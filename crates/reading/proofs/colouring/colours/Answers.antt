@@ -1,12 +1,6 @@
 -- `colours` meets its contract: the entries passed are filled, for whatever terms the rows describe.
-use mathlib.Core.List.{List}
-use mathlib.Core.Path.{◌≡◌}
-use lib.ListN.{length}
-use Prim.Native.Nat.{◌-◌}
 use native.Mathlib.Omega.{arith}
-use Rattle.tables.specs.Terms.{Term}
-use Rattle.reading.specs.Marks.{Describes, parts_colour}
-use Rattle.tables.proofs.Records.{Filling, filling_none, filling_more, filling_all}
+use Rattle.tables.proofs.Records.{filling_none, filling_more, filling_all}
 use Rattle.reading.proofs.colouring.colours.Goals as goal
 
 pub loop-t-init : goal.loop-t-init

@@ -3,10 +3,9 @@ use mathlib.Core.List.{List}
 use mathlib.Core.Path.{◌≡◌}
 use lib.ListN.{length}
 use Prim.Native.Nat.{◌-◌}
-use native.Mathlib.Omega.{arith}
 use Rattle.tables.specs.Terms.{Term}
 use Rattle.reading.specs.Marks.{Describes, parts_colour}
-use Rattle.tables.proofs.Records.{Filling, filling_none, filling_more, filling_all}
+use Rattle.tables.proofs.Records.{Filling}
 use Rattle.reading.proofs.colouring.colours.Given as goal
 
 abbrev pub invariant-loop-t : goal.invariant-loop-t

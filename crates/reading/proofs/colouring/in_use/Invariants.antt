@@ -1,11 +1,8 @@
 -- `in_use` meets its contract: the entries passed are filled.
-use mathlib.Core.Bool.{Bool, false, ◌||◌}
-use mathlib.Core.Logic.{⊎_elim}
-use mathlib.Core.Path.{◌≡◌, sym, ap, ◌∙◌}
+use mathlib.Core.Bool.{false, ◌||◌}
 use lib.ListN.{get_or}
 use Prim.Native.Nat.{◌-◌}
-use native.Mathlib.Omega.{arith}
-use Rattle.tables.proofs.Records.{Filling, filling_none, filling_more, filling_all}
+use Rattle.tables.proofs.Records.{Filling}
 use Rattle.reading.proofs.colouring.in_use.Given as goal
 
 abbrev pub invariant-loop-t : goal.invariant-loop-t

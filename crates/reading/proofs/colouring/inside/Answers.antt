@@ -1,9 +1,8 @@
 -- `inside` meets its contract: the loop keeps that the literals passed are marked, with all their parts, and nothing else.
 use mathlib.Core.Bool.{Bool}
 use mathlib.Core.List.{List}
-use Prim.Native.Nat.{◌+◌, ◌≤◌, ◌<◌, ◌-◌}
+use Prim.Native.Nat.{◌+◌, ◌<◌}
 use mathlib.Core.Path.{◌≡◌, sym, ap, subst, ◌∙◌}
-use mathlib.Core.Logic.{⊎_elim}
 use native.Mathlib.Omega.{arith}
 use Rattle.tables.specs.LiteralTable.{literal_count}
 use Rattle.std.proofs.Common.{ℕ}

@@ -1,14 +1,6 @@
 -- `inside` meets its contract: the loop keeps that the literals passed are marked, with all their parts, and nothing else.
-use mathlib.Core.Bool.{Bool}
-use mathlib.Core.List.{List}
-use Prim.Native.Nat.{◌+◌, ◌≤◌, ◌<◌, ◌-◌}
-use mathlib.Core.Path.{◌≡◌, sym, ap, subst, ◌∙◌}
-use mathlib.Core.Logic.{⊎_elim}
-use native.Mathlib.Omega.{arith}
-use Rattle.tables.specs.LiteralTable.{literal_count}
+use Prim.Native.Nat.{◌≤◌, ◌-◌}
 use Rattle.reading.specs.Marks.{Inside}
-use Rattle.reading.specs.declared.literal.Fields.{Fields}
-use Rattle.reading.proofs.Marks.{inside_none, inside_more, inside_same}
 use Rattle.reading.proofs.colouring.inside.Given as goal
 
 abbrev pub invariant-loop-k : goal.invariant-loop-k

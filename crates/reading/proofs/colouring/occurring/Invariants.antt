@@ -1,10 +1,9 @@
 -- `occurring` meets its contract: the entries passed are filled.
 use mathlib.Core.Bool.{false}
 use Prim.Native.Nat.{◌-◌}
-use native.Mathlib.Omega.{arith}
 use Rattle.tables.specs.Tests.{some_below}
 use Rattle.reading.specs.Marks.{same_symbol_inside}
-use Rattle.tables.proofs.Records.{Filling, filling_none, filling_more, filling_all}
+use Rattle.tables.proofs.Records.{Filling}
 use Rattle.reading.proofs.colouring.occurring.Given as goal
 
 abbrev pub invariant-loop-t : goal.invariant-loop-t

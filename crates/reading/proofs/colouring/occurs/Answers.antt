@@ -1,8 +1,5 @@
 -- `occurs` meets its contract: what was found is whether a term passed is inside and has the symbol.
-use Prim.Native.Nat.{◌-◌}
-use native.Mathlib.Omega.{arith}
-use Rattle.reading.specs.Marks.{same_symbol_inside}
-use Rattle.tables.proofs.Records.{SoFar, so_far, so_far_more, so_far_all}
+use Rattle.tables.proofs.Records.{so_far, so_far_more, so_far_all}
 use Rattle.reading.proofs.colouring.occurs.Goals as goal
 
 pub loop-u-init : goal.loop-u-init

@@ -1,8 +1,7 @@
 -- `occurs` meets its contract: what was found is whether a term passed is inside and has the symbol.
 use Prim.Native.Nat.{◌-◌}
-use native.Mathlib.Omega.{arith}
 use Rattle.reading.specs.Marks.{same_symbol_inside}
-use Rattle.tables.proofs.Records.{SoFar, so_far, so_far_more, so_far_all}
+use Rattle.tables.proofs.Records.{SoFar}
 use Rattle.reading.proofs.colouring.occurs.Given as goal
 
 abbrev pub invariant-loop-u : goal.invariant-loop-u

@@ -1,10 +1,8 @@
 -- `parts_colour` meets its contract: what was found is whether a term passed is marked and lacks a symbol that occurs in A, and one that occurs in B.
 use mathlib.Core.Bool.{Bool, not, cond}
 use mathlib.Core.Path.{ap₂, ◌∙◌}
-use Prim.Native.Nat.{◌+◌, ◌-◌}
-use native.Mathlib.Omega.{arith}
-use Rattle.reading.specs.Marks.{marked_and_missing}
-use Rattle.tables.proofs.Records.{SoFar, so_far, so_far_more, so_far_all}
+use Prim.Native.Nat.{◌+◌}
+use Rattle.tables.proofs.Records.{so_far, so_far_more, so_far_all}
 use Rattle.reading.proofs.colouring.parts_colour.Goals as goal
 
 pub loop-u-init : goal.loop-u-init

@@ -1,10 +1,7 @@
 -- `parts_colour` meets its contract: what was found is whether a term passed is marked and lacks a symbol that occurs in A, and one that occurs in B.
-use mathlib.Core.Bool.{Bool, not, cond}
-use mathlib.Core.Path.{ap₂, ◌∙◌}
-use Prim.Native.Nat.{◌+◌, ◌-◌}
-use native.Mathlib.Omega.{arith}
+use Prim.Native.Nat.{◌-◌}
 use Rattle.reading.specs.Marks.{marked_and_missing}
-use Rattle.tables.proofs.Records.{SoFar, so_far, so_far_more, so_far_all}
+use Rattle.tables.proofs.Records.{SoFar}
 use Rattle.reading.proofs.colouring.parts_colour.Given as goal
 
 abbrev pub invariant-loop-u : goal.invariant-loop-u

@@ -1,10 +1,6 @@
 -- `reading::earlier::arity_row` meets its contract. The invariant: no record passed has a symbol that had another arity. The measure is what is left of them.
-use mathlib.Core.Path.{◌≡◌}
-use Prim.Native.Nat.{◌-◌}
-use native.Mathlib.Omega.{arith}
-use Rattle.tables.specs.Tests.{had_other_arity}
 use Rattle.tables.specs.Checks.{arity_row}
-use Rattle.tables.proofs.Records.{NotYet, not_yet, first_found, not_more, not_found}
+use Rattle.tables.proofs.Records.{not_yet, first_found, not_more, not_found}
 use Rattle.reading.proofs.Keys.{arity_by_columns}
 use Rattle.reading.proofs.earlier.arity_row.Goals as goal
 

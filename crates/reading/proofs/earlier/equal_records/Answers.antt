@@ -1,6 +1,5 @@
 -- `reading::earlier::equal_records` meets its contract. The two byte strings compared are the two records.
 use mathlib.Core.Path.{ap₂, ◌∙◌}
-use borrow.Author.Rules.{rules}
 use Rattle.tables.specs.Words.{same}
 use Rattle.tables.specs.Tests.{equal_records}
 use Rattle.reading.proofs.earlier.equal_records.Goals as goal

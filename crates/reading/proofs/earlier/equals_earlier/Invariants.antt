@@ -1,8 +1,7 @@
 -- `reading::earlier::equals_earlier` meets its contract. The invariant: no record passed is the same. The measure is what is left of them.
 use Prim.Native.Nat.{◌-◌}
-use native.Mathlib.Omega.{arith}
-use Rattle.tables.specs.Tests.{equal_records, equals_earlier}
-use Rattle.tables.proofs.Records.{NoneYet, none_yet, some_passed, none_more, none_passed}
+use Rattle.tables.specs.Tests.{equal_records}
+use Rattle.tables.proofs.Records.{NoneYet}
 use Rattle.reading.proofs.earlier.equals_earlier.Given as goal
 
 abbrev pub invariant-loop-j : goal.invariant-loop-j

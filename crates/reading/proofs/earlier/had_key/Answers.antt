@@ -1,8 +1,5 @@
 -- `reading::earlier::had_key` meets its contract. The invariant: what was found is whether a record passed has the key. The measure is what is left of them.
-use Prim.Native.Nat.{◌-◌}
-use native.Mathlib.Omega.{arith}
-use Rattle.reading.specs.Keys.{same_key}
-use Rattle.tables.proofs.Records.{SoFar, so_far, so_far_more, so_far_all}
+use Rattle.tables.proofs.Records.{so_far, so_far_more, so_far_all}
 use Rattle.reading.proofs.earlier.had_key.Goals as goal
 
 pub loop-j-init : goal.loop-j-init

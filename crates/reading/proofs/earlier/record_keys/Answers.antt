@@ -1,10 +1,8 @@
 -- `reading::earlier::record_keys` meets its contract. The invariant: the places passed are filled. The measure is what is left of them.
 use mathlib.Core.Path.{ap, ◌∙◌}
-use Prim.Native.Nat.{◌-◌}
 use native.Mathlib.Omega.{arith}
-use Rattle.tables.specs.TermTable.{term_record}
 use Rattle.reading.specs.Keys.{record_key, record_keys}
-use Rattle.tables.proofs.Records.{Filling, filling_none, filling_more, filling_all}
+use Rattle.tables.proofs.Records.{filling_none, filling_more, filling_all}
 use Rattle.reading.proofs.earlier.record_keys.Goals as goal
 
 pub loop-k-init : goal.loop-k-init

@@ -1,12 +1,7 @@
 -- `reading::earlier::repeated_row` meets its contract. The invariant: no record passed equals an earlier one. The measure is what is left of them.
-use mathlib.Core.Logic.{⊎_elim}
-use mathlib.Core.Path.{refl}
 use Prim.Native.Nat.{◌-◌}
-use native.Mathlib.Omega.{arith}
 use Rattle.tables.specs.Tests.{equals_earlier}
-use Rattle.tables.specs.Checks.{repeated_row}
-use Rattle.tables.proofs.Records.{NotYet, not_yet, first_found, not_more, not_found}
-use Rattle.reading.proofs.Keys.{no_key}
+use Rattle.tables.proofs.Records.{NotYet}
 use Rattle.reading.proofs.earlier.repeated_row.Given as goal
 
 abbrev pub invariant-loop-k : goal.invariant-loop-k

@@ -1,5 +1,4 @@
 -- `reading::literal_table::breaks_literal` meets its contract. The tests are those of the definition, of the fields that were read.
-use borrow.Author.Rules.{rules}
 use Rattle.tables.specs.Tests.{breaks_literal}
 use Rattle.reading.proofs.literal_table.breaks_literal.Goals as goal
 

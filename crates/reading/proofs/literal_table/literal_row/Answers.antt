@@ -1,8 +1,5 @@
 -- `reading::literal_table::literal_row` meets its contract. The invariant: no record passed breaks row 6. The measure is what is left of them.
-use Prim.Native.Nat.{◌-◌}
-use native.Mathlib.Omega.{arith}
-use Rattle.tables.specs.Tests.{breaks_literal}
-use Rattle.tables.proofs.Records.{NotYet, not_yet, first_found, not_more, not_found}
+use Rattle.tables.proofs.Records.{not_yet, first_found, not_more, not_found}
 use Rattle.reading.proofs.literal_table.literal_row.Goals as goal
 
 pub loop-k-init : goal.loop-k-init

@@ -1,9 +1,5 @@
 -- `reading::term_table::arguments_wrong` meets its contract. The invariant: no field passed is wrong. The measure is what is left of them.
-use mathlib.Core.Bool.{◌||◌}
-use Prim.Native.Nat.{◌-◌}
-use native.Mathlib.Omega.{arith}
-use Rattle.tables.specs.Tests.{not_lower, unused_not_zero}
-use Rattle.tables.proofs.Records.{NoneYet, none_yet, some_passed, none_more, none_passed}
+use Rattle.tables.proofs.Records.{none_yet, some_passed, none_more, none_passed}
 use Rattle.reading.proofs.term_table.arguments_wrong.Goals as goal
 
 pub loop-j-init : goal.loop-j-init

@@ -1,6 +1,5 @@
 -- `reading::term_table::breaks_layout` meets its contract. The two tests of an argument field, over all fields at once, are the tests of the definition one after the other.
 use mathlib.Core.Bool.{◌||◌, or_assoc}
-use borrow.Author.Rules.{rules}
 use Rattle.tables.specs.Tests.{arity_wrong, spare_wrong, not_lower, unused_not_zero, breaks_layout, some_below}
 use Rattle.tables.proofs.Records.{some_either}
 use Rattle.reading.proofs.term_table.breaks_layout.Goals as goal

@@ -1,9 +1,7 @@
 -- `reading::term_table::layout_row` meets its contract. The invariant: no record passed breaks its layout. The measure is what is left of them.
 use Prim.Native.Nat.{◌-◌}
-use native.Mathlib.Omega.{arith}
 use Rattle.tables.specs.Tests.{breaks_layout}
-use Rattle.tables.specs.Checks.{layout_row}
-use Rattle.tables.proofs.Records.{NotYet, not_yet, first_found, not_more, not_found}
+use Rattle.tables.proofs.Records.{NotYet}
 use Rattle.reading.proofs.term_table.layout_row.Given as goal
 
 abbrev pub invariant-loop-k : goal.invariant-loop-k

@@ -1,11 +1,8 @@
 -- `reading::term_table::term_bytes` meets its contract. The invariant: the places passed are filled. The measure is what is left of them.
-use mathlib.Core.List.{List}
-use mathlib.Core.Path.{ap}
-use Prim.Native.Nat.{ℕ, ◌-◌}
-use native.Mathlib.Omega.{arith}
+use Prim.Native.Nat.{◌-◌}
 use Rattle.tables.specs.Bytes.{byte_at}
 use Rattle.tables.specs.TermTable.{term_record}
-use Rattle.tables.proofs.Records.{Filling, filling_none, filling_more, filling_all}
+use Rattle.tables.proofs.Records.{Filling}
 use Rattle.reading.proofs.term_table.term_bytes.Given as goal
 
 abbrev pub invariant-loop-k : goal.invariant-loop-k

@@ -2,7 +2,6 @@
 use mathlib.Core.Path.{ap, ◌∙◌}
 use Prim.Native.Nat.{◌*◌}
 use lib.ListN.{length}
-use borrow.Author.Rules.{rules}
 use Rattle.tables.proofs.Records.{part_is, record_length}
 use Rattle.reading.proofs.term_table.term_record.Goals as goal
 
