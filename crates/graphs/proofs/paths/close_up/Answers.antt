@@ -6,10 +6,10 @@ use Rattle.graphs.proofs.Climbs.{Closing, closing_more, closing_all}
 use Rattle.graphs.proofs.paths.close_up.Goals as goal
 
 pub loop-i-init : goal.loop-i-init
-loop-i-init c = refl }
+loop-i-init c = record { long = c.requires.0; order = c.requires.1; short = c.requires.2; gap = omega arith; whole = refl }
 
 pub loop-i-preserved : goal.loop-i-preserved
 loop-i-preserved c = closing_more c.loop-i.invariant c.loop-i-test.true
 
 pub returns : goal.returns
-returns c = c.loop-i.invariant in (w.long, closing_all w c.requires.2 c.loop-i-test.false)
+returns c = let w = c.loop-i.invariant in (w.long, closing_all w c.requires.2 c.loop-i-test.false)
