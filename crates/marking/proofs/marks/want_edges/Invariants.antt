@@ -1,0 +1,14 @@
+-- `want_edges` meets its contract: the edges passed that have the colour are marked.
+use mathlib.Core.Logic.{⊎_elim}
+use mathlib.Core.Path.{sym, subst}
+use Prim.Native.Nat.{◌-◌}
+use native.Mathlib.Omega.{arith}
+use Rattle.marking.proofs.Trails.{flags_agree, flags_not}
+use Rattle.marking.proofs.Wanting.{EdgesUpTo, edges_none, edges_mark, edges_skip, edges_all}
+use Rattle.marking.proofs.marks.want_edges.Given as goal
+
+abbrev pub invariant-loop-i : goal.invariant-loop-i
+invariant-loop-i l = EdgesUpTo l.inb l.stops l.edges l.lo l.hi l.b l.initial.marks l.i l.marks
+
+abbrev pub decreases-loop-i : goal.decreases-loop-i
+decreases-loop-i l = l.hi - l.i

@@ -1,0 +1,14 @@
+-- `want_factors` meets its contract: the factors passed that have the colour are marked by their ends.
+use Prim.Native.Nat.{◌-◌}
+use native.Mathlib.Nat.{le_refl}
+use native.Mathlib.Omega.{arith}
+use Rattle.marking.proofs.Squares.{between_place}
+use Rattle.marking.proofs.Trails.{flags_agree, flags_not, rows_part}
+use Rattle.marking.proofs.Wanting.{FactorsUpTo, factors_none, factors_mark, factors_skip, factors_all}
+use Rattle.marking.proofs.marks.want_factors.Given as goal
+
+abbrev pub invariant-loop-at : goal.invariant-loop-at
+invariant-loop-at l = FactorsUpTo l.inb l.stops l.edges l.lo l.hi l.b l.initial.pairs l.initial.rows l.at l.pairs l.rows
+
+abbrev pub decreases-loop-at : goal.decreases-loop-at
+decreases-loop-at l = l.hi - l.at

@@ -1,0 +1,30 @@
+-- `running::search::partner` meets its contract. The invariant: no term from the place on was a candidate. The measure is what is left of them.
+use mathlib.Core.Logic.{⊎_elim}
+use Prim.Native.Nat.{ℕ, ◌-◌, ◌%◌, ◌≤◌, ◌<◌}
+use native.Mathlib.Omega.{arith}
+use lib.Dec.{T}
+use lib.ListN.{get_or}
+use Rattle.running.specs.Keys.{candidate}
+use Rattle.running.proofs.Candidates.{no_candidate, other_key, other_test, is_candidate, not_next}
+use Rattle.running.proofs.Ends.{before_end}
+use Rattle.running.proofs.search.partner.Goals as goal
+
+pub returns-then-key-eq0 : goal.returns-then-key-eq0
+returns-then-key-eq0 c k l h = no_candidate _ _ _ _ _ c.if-key-eq0.true
+
+pub overflow_cast-end : goal.overflow_cast-end
+overflow_cast-end c = omega (arith, c.requires.2.within (get_or c.args.keys.now c.args.s 0 % 1021))
+
+pub loop-t-init : goal.loop-t-init
+loop-t-init c = (omega arith, c.requires.2.within _, λ k l h. absurd (omega arith))
+
+pub returns-then-symbol-symbols : goal.returns-then-symbol-symbols
+returns-then-symbol-symbols c =     let inv = c.loop-t.invariant in
+    (omega (arith, inv.0), omega (arith, inv.1), is_candidate _ _ _ _ _ c.if-key-eq0.false c.if-key-keys.true c.if-symbol-symbols.true, inv.2)
+
+pub loop-t-preserved : goal.loop-t-preserved
+loop-t-preserved c =     let inv = c.loop-t.invariant in
+    (omega arith, inv.1, not_next _ _ _ inv.2 (⊎_elim (λ w. other_test _ _ _ _ _ w.3.left) (λ w. other_key _ _ _ _ _ w.left) c.else-key-keys.branch))
+
+pub returns : goal.returns
+returns c k l h w = c.loop-t.invariant.2 k l (omega (arith, before_end _ _ _ _ _ _ k c.requires.2 h w)) w
