@@ -3,7 +3,6 @@ use mathlib.Core.Path.{ap}
 use Rattle.demands.specs.declared.Answer.{Answer}
 use Rattle.report.specs.Text.{report_of}
 use Rattle.report.proofs.Pages.{shown_as}
-use borrow.Author.Rules.{rules}
 use Rattle.report.proofs.report.Goals as goal
 
 pub returns-in-Consistent : goal.returns-in-Consistent

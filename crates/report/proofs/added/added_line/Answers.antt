@@ -5,7 +5,6 @@ use Prim.Native.Nat.{ℕ, min}
 use Rattle.tables.specs.Words.{below}
 use Rattle.report.specs.Text.{argument_text, added_line, decimal}
 use Rattle.report.proofs.Pages.{and_then, as_text}
-use borrow.Author.Rules.{rules}
 use Rattle.report.proofs.added.added_line.Goals as goal
 
 pub returns : goal.returns

@@ -1,13 +1,11 @@
 -- `report::added::added_lines` meets its contract. The invariant: the lines of the terms passed are written. The measure is what is left of the terms.
 use mathlib.Core.List.{flat_map}
-use mathlib.Core.Path.{◌≡◌, refl}
+use mathlib.Core.Path.{◌≡◌}
 use Prim.Native.Nat.{◌≤◌, ◌-◌}
 use lib.ListN.{length}
 use Rattle.tables.specs.Words.{below}
 use Rattle.report.specs.Page.{page, puts}
 use Rattle.report.specs.Text.{added_line}
-use Rattle.report.proofs.Pages.{no_texts, one_text_more, all_texts}
-use borrow.Author.Rules.{rules}
 use Rattle.report.proofs.added.added_lines.Given as goal
 
 abbrev pub invariant-loop-i : goal.invariant-loop-i

@@ -2,7 +2,6 @@
 use mathlib.Core.Path.{ap, sym}
 use Rattle.report.specs.Text.{argument_text, decimal}
 use Rattle.report.proofs.Pages.{and_then, as_text}
-use borrow.Author.Rules.{rules}
 use Rattle.report.proofs.added.argument.Goals as goal
 
 pub returns : goal.returns

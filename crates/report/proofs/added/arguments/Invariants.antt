@@ -1,13 +1,11 @@
 -- `report::added::arguments` meets its contract. The invariant: the arguments passed are written. The measure is what is left of them.
 use mathlib.Core.List.{flat_map}
-use mathlib.Core.Path.{◌≡◌, refl}
+use mathlib.Core.Path.{◌≡◌}
 use Prim.Native.Nat.{◌≤◌, ◌-◌}
 use lib.ListN.{length}
 use Rattle.tables.specs.Words.{below}
 use Rattle.report.specs.Page.{page, puts}
 use Rattle.report.specs.Text.{argument_text}
-use Rattle.report.proofs.Pages.{no_texts, one_text_more, all_texts}
-use borrow.Author.Rules.{rules}
 use Rattle.report.proofs.added.arguments.Given as goal
 
 abbrev pub invariant-loop-j : goal.invariant-loop-j

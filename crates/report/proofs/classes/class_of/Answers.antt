@@ -1,7 +1,6 @@
 -- `report::classes::class_of` meets its contract.
 use Rattle.report.proofs.Pages.{and_then, as_text}
 use Rattle.report.proofs.Lines.{class_idle, class_named}
-use borrow.Author.Rules.{rules}
 use Rattle.report.proofs.classes.class_of.Goals as goal
 
 pub returns-then-class-eq65535 : goal.returns-then-class-eq65535

@@ -2,7 +2,6 @@
 use mathlib.Core.Path.{ap, sym}
 use Rattle.report.specs.Text.{term_line, class_of}
 use Rattle.report.proofs.Pages.{and_then, as_text}
-use borrow.Author.Rules.{rules}
 use Rattle.report.proofs.classes.term_line.Goals as goal
 
 pub returns : goal.returns

@@ -2,7 +2,6 @@
 use Prim.Native.Nat.{◌+◌, ◌≤◌}
 use native.Mathlib.Omega.{arith}
 use lib.ListN.{length, get_or-eq_default}
-use borrow.Author.Rules.{rules}
 use Rattle.report.proofs.fields.word.Goals as goal
 
 pub returns-else-at-s : goal.returns-else-at-s

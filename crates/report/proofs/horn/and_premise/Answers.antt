@@ -1,7 +1,6 @@
 -- `report::horn::and_premise` meets its contract.
 use Rattle.report.specs.Text.{and_pair}
 use Rattle.report.proofs.Pages.{and_then}
-use borrow.Author.Rules.{rules}
 use Rattle.report.proofs.horn.and_premise.Goals as goal
 
 pub returns : goal.returns

@@ -2,7 +2,6 @@
 use Rattle.report.specs.Text.{clause_line}
 use Rattle.report.specs.Records.{clause_of}
 use Rattle.report.proofs.Pages.{and_then}
-use borrow.Author.Rules.{rules}
 use Rattle.report.proofs.horn.clause_line.Goals as goal
 
 pub returns : goal.returns

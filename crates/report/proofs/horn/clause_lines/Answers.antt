@@ -1,9 +1,7 @@
 -- `report::horn::clause_lines` meets its contract. The invariant: what is written and what is left are all lines. The measure is what is left of the records.
-use mathlib.Core.Path.{◌≡◌, refl, ap, sym, ◌∙◌}
-use Prim.Native.Nat.{◌≤◌, ◌-◌}
-use lib.ListN.{length}
-use Rattle.report.specs.Page.{page, puts}
-use Rattle.report.proofs.ClauseLines.{left, left_premise, line_more, all_lines}
+use mathlib.Core.Path.{refl, ap, sym, ◌∙◌}
+use Rattle.report.specs.Page.{puts}
+use Rattle.report.proofs.ClauseLines.{left_premise, line_more, all_lines}
 use borrow.Author.Rules.{rules}
 use Rattle.report.proofs.horn.clause_lines.Goals as goal
 

@@ -1,10 +1,9 @@
 -- `report::horn::clause_lines` meets its contract. The invariant: what is written and what is left are all lines. The measure is what is left of the records.
-use mathlib.Core.Path.{◌≡◌, refl, ap, sym, ◌∙◌}
+use mathlib.Core.Path.{◌≡◌}
 use Prim.Native.Nat.{◌≤◌, ◌-◌}
 use lib.ListN.{length}
 use Rattle.report.specs.Page.{page, puts}
-use Rattle.report.proofs.ClauseLines.{left, left_premise, line_more, all_lines}
-use borrow.Author.Rules.{rules}
+use Rattle.report.proofs.ClauseLines.{left}
 use Rattle.report.proofs.horn.clause_lines.Given as goal
 
 abbrev pub invariant-loop-i : goal.invariant-loop-i

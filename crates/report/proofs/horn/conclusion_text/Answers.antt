@@ -1,7 +1,6 @@
 -- `report::horn::conclusion_text` meets its contract.
 use Rattle.report.proofs.Pages.{as_text}
 use Rattle.report.proofs.ClauseLines.{conclusion_equal, conclusion_different, conclusion_false}
-use borrow.Author.Rules.{rules}
 use Rattle.report.proofs.horn.conclusion_text.Goals as goal
 
 pub returns-then-kind-eq2 : goal.returns-then-kind-eq2

@@ -1,11 +1,5 @@
 -- `report::horn::more_premises` meets its contract. The invariant: the premises passed are written. The measure is what is left of them.
-use mathlib.Core.List.{flat_map}
-use mathlib.Core.Path.{◌≡◌, refl}
-use Prim.Native.Nat.{◌≤◌, ◌-◌}
-use lib.ListN.{length}
-use Rattle.report.specs.Page.{page, puts}
-use Rattle.report.specs.Text.{and_pair}
-use Rattle.report.specs.Records.{pairs_from}
+use mathlib.Core.Path.{refl}
 use Rattle.report.proofs.ClauseLines.{no_premise, premise_more, all_premises}
 use borrow.Author.Rules.{rules}
 use Rattle.report.proofs.horn.more_premises.Goals as goal

@@ -1,13 +1,11 @@
 -- `report::horn::more_premises` meets its contract. The invariant: the premises passed are written. The measure is what is left of them.
 use mathlib.Core.List.{flat_map}
-use mathlib.Core.Path.{◌≡◌, refl}
+use mathlib.Core.Path.{◌≡◌}
 use Prim.Native.Nat.{◌≤◌, ◌-◌}
 use lib.ListN.{length}
 use Rattle.report.specs.Page.{page, puts}
 use Rattle.report.specs.Text.{and_pair}
 use Rattle.report.specs.Records.{pairs_from}
-use Rattle.report.proofs.ClauseLines.{no_premise, premise_more, all_premises}
-use borrow.Author.Rules.{rules}
 use Rattle.report.proofs.horn.more_premises.Given as goal
 
 abbrev pub invariant-loop-j : goal.invariant-loop-j

@@ -6,7 +6,6 @@ use Rattle.clauses.proofs.Records.{pair_words}
 use Rattle.report.specs.Text.{pair_text, decimal}
 use Rattle.report.proofs.Pages.{and_then, as_text}
 use Rattle.report.proofs.ClauseLines.{word_in_record}
-use borrow.Author.Rules.{rules}
 use Rattle.report.proofs.horn.pair.Goals as goal
 
 pub returns : goal.returns

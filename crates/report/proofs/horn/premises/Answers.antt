@@ -2,7 +2,6 @@
 use native.Mathlib.Omega.{arith}
 use Rattle.report.proofs.Pages.{and_then, as_text}
 use Rattle.report.proofs.ClauseLines.{text_none, text_some}
-use borrow.Author.Rules.{rules}
 use Rattle.report.proofs.horn.premises.Goals as goal
 
 pub returns-then-start-conclusion : goal.returns-then-start-conclusion

@@ -1,6 +1,5 @@
 -- `report::page::put` meets its contract: there is room for the byte, or there is none.
 use Rattle.report.proofs.Pages.{put_inside, put_outside}
-use borrow.Author.Rules.{rules}
 use Rattle.report.proofs.page.put.Goals as goal
 
 pub returns-then-at-out : goal.returns-then-at-out

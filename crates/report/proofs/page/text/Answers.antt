@@ -1,9 +1,6 @@
 -- `report::page::text` meets its contract. The invariant: what is written is the bytes passed. The measure is what is left of the text.
-use mathlib.Core.Path.{◌≡◌, refl}
-use Prim.Native.Nat.{◌≤◌, ◌-◌}
+use mathlib.Core.Path.{refl}
 use borrow.Author.Rules.{rules}
-use lib.ListN.{length, take}
-use Rattle.report.specs.Page.{page, puts}
 use Rattle.report.proofs.Pages.{nothing_yet, byte_more, bytes_all}
 use Rattle.report.proofs.page.text.Goals as goal
 

@@ -1,10 +1,8 @@
 -- `report::page::text` meets its contract. The invariant: what is written is the bytes passed. The measure is what is left of the text.
-use mathlib.Core.Path.{◌≡◌, refl}
+use mathlib.Core.Path.{◌≡◌}
 use Prim.Native.Nat.{◌≤◌, ◌-◌}
-use borrow.Author.Rules.{rules}
 use lib.ListN.{length, take}
 use Rattle.report.specs.Page.{page, puts}
-use Rattle.report.proofs.Pages.{nothing_yet, byte_more, bytes_all}
 use Rattle.report.proofs.page.text.Given as goal
 
 abbrev pub invariant-loop-i : goal.invariant-loop-i

@@ -5,7 +5,6 @@ use Prim.Native.Nat.{ℕ}
 use Rattle.tables.specs.Words.{below}
 use Rattle.report.specs.Text.{term_line, consistent_text}
 use Rattle.report.proofs.Pages.{and_then, as_text}
-use borrow.Author.Rules.{rules}
 use Rattle.report.proofs.verdicts.consistent.Goals as goal
 
 pub returns : goal.returns

@@ -1,7 +1,6 @@
 -- `report::verdicts::end` meets its contract.
 use Rattle.report.specs.Text.{end_text}
 use Rattle.report.proofs.Pages.{and_then}
-use borrow.Author.Rules.{rules}
 use Rattle.report.proofs.verdicts.end.Goals as goal
 
 pub returns : goal.returns

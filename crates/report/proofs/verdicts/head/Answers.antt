@@ -1,7 +1,6 @@
 -- `report::verdicts::head` meets its contract.
 use Rattle.report.specs.Text.{head_text}
 use Rattle.report.proofs.Pages.{and_then}
-use borrow.Author.Rules.{rules}
 use Rattle.report.proofs.verdicts.head.Goals as goal
 
 pub returns : goal.returns

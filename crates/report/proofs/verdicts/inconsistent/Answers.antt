@@ -6,7 +6,6 @@ use Rattle.tables.specs.Words.{below}
 use Rattle.clauses.specs.ReadBack.{clauses_read}
 use Rattle.report.specs.Text.{added_line, clause_line, inconsistent_text}
 use Rattle.report.proofs.Pages.{and_then, as_text}
-use borrow.Author.Rules.{rules}
 use Rattle.report.proofs.verdicts.inconsistent.Goals as goal
 
 pub returns : goal.returns

@@ -1,7 +1,6 @@
 -- `report::verdicts::refused` meets its contract.
 use Rattle.report.specs.Text.{refused_text}
 use Rattle.report.proofs.Pages.{and_then}
-use borrow.Author.Rules.{rules}
 use Rattle.report.proofs.verdicts.refused.Goals as goal
 
 pub returns : goal.returns

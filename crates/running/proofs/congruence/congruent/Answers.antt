@@ -18,7 +18,7 @@ pub field_label-requires-in-loop-j : goal.field_label-requires-in-loop-j
 field_label-requires-in-loop-j c = (omega arith, c.requires.3 c.args.t c.requires.1)
 
 pub returns-then-field_label : goal.returns-then-field_label
-returns-then-field_label c G e =     
+returns-then-field_label c G e =
     fields_apart G _ e c.args.arity _ _ (c.requires.3 c.args.s c.requires.0) (c.requires.3 c.args.t c.requires.1) c.requires.2 c.loop-j.j c.loop-j-test.true
     (λ q. c.if-field_label.true (c.field_label.ensures.0 ∙ q ∙ sym c.field_label-in-loop-j.ensures.0))
 
@@ -29,6 +29,6 @@ loop-j-preserved c = (
 )
 
 pub returns : goal.returns
-returns c G e =     
+returns c G e =
     fields_joined G _ e c.args.arity _ _ (c.requires.3 c.args.s c.requires.0) (c.requires.3 c.args.t c.requires.1) c.requires.2
     (λ k h. c.loop-j.invariant.1 k (omega arith))

@@ -39,13 +39,13 @@ pub bounds-labels-right : goal.bounds-labels-right
 bounds-labels-right c = omega (arith, (let sides = sides_small _ _ c.requires.1 c.loop-i.i c.loop-i-test.true in let e = c.read_at-l.ensures in (omega (arith, ap (λ (f : Fields). f.left) e, sides.0), omega (arith, ap (λ (f : Fields). f.right) e, sides.1))).1)
 
 pub joined_on-grown-requires : goal.joined_on-grown-requires
-joined_on-grown-requires c =     let pre = c.requires in
+joined_on-grown-requires c = let pre = c.requires in
     let shows = c.loop-i.invariant.1 pre.0 pre.1 pre.2 pre.3 in
     let sides = (let sides = sides_small _ _ c.requires.1 c.loop-i.i c.loop-i-test.true in let e = c.read_at-l.ensures in (omega (arith, ap (λ (f : Fields). f.left) e, sides.0), omega (arith, ap (λ (f : Fields). f.right) e, sides.1))) in
     (shown_length (terms_of pre.0) (literals_of _) _ _ shows, omega (arith, sides.0), omega (arith, sides.1), omega (arith, after_edges _ _ pre.1 c.loop-i.i _ shows c.loop-i-test.true))
 
 pub loop-i-preserved : goal.loop-i-preserved
-loop-i-preserved c =     let literals = c.args.literals.now in
+loop-i-preserved c = let literals = c.args.literals.now in
     let i = c.loop-i.i in
     let more = c.loop-i-test.true in
     let f = c.read_at-l.result in

@@ -14,10 +14,8 @@ use Rattle.running.specs.declared.search.Next.TheVariants.{At, Nothing}
 use Rattle.running.proofs.PairTest.{NoneBefore, before_start, before_found, before_past, before_next, tested, found_first, found_none, tested_candidate, rows_refuse, rows_accept}
 use Rattle.running.proofs.search.first_pair.Goals as goal
 
-
 nothing_found : (p : ℕ → Bool) (from n : ℕ) (r : Next) → NextFrom p from n r → r ≡ Nothing → (k : ℕ) → from ≤ k → k < n → T (p k) → ⊥
 nothing_found p from n r h e = subst (NextFrom p from n) e h
-
 
 pub keys-requires : goal.keys-requires
 keys-requires c = (c.requires.0, c.requires.1.rows, refl)
@@ -26,7 +24,7 @@ pub ends-requires : goal.ends-requires
 ends-requires c = (omega arith, refl)
 
 pub loop-s-init : goal.loop-s-init
-loop-s-init c =     let args = c.args in
+loop-s-init c = let args = c.args in
     (omega arith, omega arith, c.ends.ensures, λ G e. before_start _ (tested c.keys.new.all args.symbols.now args.labels.now args.arities.now args.rows G))
 
 pub partner-found-requires : goal.partner-found-requires
@@ -36,11 +34,11 @@ pub overflow_cast-arities : goal.overflow_cast-arities
 overflow_cast-arities c = omega (arith, c.requires.1.arities c.loop-s.s (omega arith))
 
 pub congruent-requires : goal.congruent-requires
-congruent-requires c =     let found = (subst (NextFrom _ _ _) c.in-At.is c.partner-found.ensures) in
+congruent-requires c = let found = (subst (NextFrom _ _ _) c.in-At.is c.partner-found.ensures) in
     (omega arith, omega (arith, found.1), c.requires.1.arities c.loop-s.s (omega arith), c.requires.1.rows)
 
 pub returns-then-congruent : goal.returns-then-congruent
-returns-then-congruent c ts ls reached st shows all one =     let args = c.args in
+returns-then-congruent c ts ls reached st shows all one = let args = c.args in
     let pre = c.requires in
     let found = (subst (NextFrom _ _ _) c.in-At.is c.partner-found.ensures) in
     let inv = c.loop-s.invariant in
@@ -61,7 +59,7 @@ pub loop-s-smaller-in-At : goal.loop-s-smaller-in-At
 loop-s-smaller-in-At c = omega (arith, (subst (NextFrom _ _ _) c.in-At.is c.partner-found.ensures).0, (subst (NextFrom _ _ _) c.in-At.is c.partner-found.ensures).1, c.loop-s.invariant.1)
 
 pub loop-s-preserved-in-At : goal.loop-s-preserved-in-At
-loop-s-preserved-in-At c =     let args = c.args in
+loop-s-preserved-in-At c = let args = c.args in
     let found = (subst (NextFrom _ _ _) c.in-At.is c.partner-found.ensures) in
     let inv = c.loop-s.invariant in
     let keys = c.keys.new.all in
@@ -76,7 +74,7 @@ loop-s-preserved-in-At c =     let args = c.args in
     )
 
 pub loop-s-preserved : goal.loop-s-preserved
-loop-s-preserved c =     let args = c.args in
+loop-s-preserved c = let args = c.args in
     let inv = c.loop-s.invariant in
     let keys = c.keys.new.all in
     let s = c.loop-s.s in
@@ -89,7 +87,7 @@ loop-s-preserved c =     let args = c.args in
     )
 
 pub returns : goal.returns
-returns c ts ls reached st shows all one =     let args = c.args in
+returns c ts ls reached st shows all one = let args = c.args in
     let pre = c.requires in
     let lent = searched st args.labels.now args.symbols.now args.vertices.now args.arities.now args.rows in
     found_none ts ls reached lent shows pre.1 args.given all pre.0 c.keys.new.all c.keys.ensures

@@ -19,11 +19,11 @@ pub loop-t-init : goal.loop-t-init
 loop-t-init c = (omega arith, c.requires.2.within _, λ k l h. absurd (omega arith))
 
 pub returns-then-symbol-symbols : goal.returns-then-symbol-symbols
-returns-then-symbol-symbols c =     let inv = c.loop-t.invariant in
+returns-then-symbol-symbols c = let inv = c.loop-t.invariant in
     (omega (arith, inv.0), omega (arith, inv.1), is_candidate _ _ _ _ _ c.if-key-eq0.false c.if-key-keys.true c.if-symbol-symbols.true, inv.2)
 
 pub loop-t-preserved : goal.loop-t-preserved
-loop-t-preserved c =     let inv = c.loop-t.invariant in
+loop-t-preserved c = let inv = c.loop-t.invariant in
     (omega arith, inv.1, not_next _ _ _ inv.2 (⊎_elim (λ w. other_test _ _ _ _ _ w.3.left) (λ w. other_key _ _ _ _ _ w.left) c.else-key-keys.branch))
 
 pub returns : goal.returns

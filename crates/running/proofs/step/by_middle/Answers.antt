@@ -10,12 +10,12 @@ pub middle_step-requires : goal.middle_step-requires
 middle_step-requires c = (c.requires.0, apart_left c.requires.0 _ _ c.requires.1 c.requires.2 (eq-eqb _ _ c.if-st-s-eq1.true))
 
 pub returns-then-st-s-eq1 : goal.returns-then-st-s-eq1
-returns-then-st-s-eq1 c run pair =     let odd = eq-eqb _ _ c.if-st-s-eq1.true in
+returns-then-st-s-eq1 c run pair = let odd = eq-eqb _ _ c.if-st-s-eq1.true in
     outcome_left run _ _ pair c.requires.2 odd _ (c.middle_step.ensures run (apart_left run _ _ pair c.requires.2 odd))
 
 pub middle_step-requires-2 : goal.middle_step-requires-2
 middle_step-requires-2 c = (c.requires.0, apart_right c.requires.0 _ _ c.requires.1 c.requires.2 (ne_eqb _ _ c.if-st-s-eq1.false))
 
 pub returns : goal.returns
-returns c run pair =     let even = ne_eqb _ _ c.if-st-s-eq1.false in
+returns c run pair = let even = ne_eqb _ _ c.if-st-s-eq1.false in
     outcome_right run _ _ pair c.requires.2 even _ (c.middle_step-2.ensures run (apart_right run _ _ pair c.requires.2 even))

@@ -28,14 +28,14 @@ pub lay_path-hops-requires : goal.lay_path-hops-requires
 lay_path-hops-requires c = (can_walk c.requires c.loop-j.j c.loop-j-test.true, c.loop-j.invariant.0)
 
 pub first_shared-met-requires : goal.first_shared-met-requires
-first_shared-met-requires c =     let w = c.requires in
+first_shared-met-requires c = let w = c.requires in
     let j = c.loop-j.j in
     let more = c.loop-j-test.true in
     let trail = c.lay_path-hops.ensures.1 w.graph (walks w j more) in
     (trail.within, stops_fit w j more _ trail, stops_below w j more _ trail)
 
 pub returns-in_default : goal.returns-in_default
-returns-in_default c w =     let j = c.loop-j.j in
+returns-in_default c w = let j = c.loop-j.j in
     let more = c.loop-j-test.true in
     let trail = c.lay_path-hops.ensures.1 w.graph (walks w j more) in
     hands_none _ _
@@ -50,14 +50,14 @@ pub bounds-args-j : goal.bounds-args-j
 bounds-args-j c = omega (arith, c.requires.small)
 
 pub loop-j-preserved : goal.loop-j-preserved
-loop-j-preserved c =     let ensured = c.lay_path-hops.ensures in (
-      ensured.0,
-      λ w.
-          let j = c.loop-j.j in
-          let more = c.loop-j-test.true in
-          chosen_more w j more _ _ (c.loop-j.invariant.1 w)
-          (sym (met_is w j more _ (ensured.1 w.graph (walks w j more))) ∙ sym c.first_shared-met.ensures ∙ ap met_of c.in-At.is),
-    )
+loop-j-preserved c = let ensured = c.lay_path-hops.ensures in (
+  ensured.0,
+  λ w.
+      let j = c.loop-j.j in
+      let more = c.loop-j-test.true in
+      chosen_more w j more _ _ (c.loop-j.invariant.1 w)
+      (sym (met_is w j more _ (ensured.1 w.graph (walks w j more))) ∙ sym c.first_shared-met.ensures ∙ ap met_of c.in-At.is),
+)
 
 pub returns : goal.returns
 returns c w = hands_some _ _ refl (chosen_all w _ c.loop-j.j (c.loop-j.invariant.1 w) c.loop-j-test.false)

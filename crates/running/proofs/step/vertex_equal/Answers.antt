@@ -43,7 +43,7 @@ pub bounds-rows-v : goal.bounds-rows-v
 bounds-rows-v c = omega (arith, (omega (arith, c.requires.1, count_fits c.requires.3)))
 
 pub same_row-requires : goal.same_row-requires
-same_row-requires c =     
+same_row-requires c =
     (rows_length c.requires.3 c.loop-v.v (omega (arith, c.requires.1, c.loop-v-test.true)), row_length c.requires.3)
 
 pub returns-then-same_row : goal.returns-then-same_row
@@ -53,7 +53,7 @@ pub overflow_add-v : goal.overflow_add-v
 overflow_add-v c = omega (arith, (omega (arith, c.requires.1, count_fits c.requires.3)))
 
 pub loop-v-preserved : goal.loop-v-preserved
-loop-v-preserved c a e p =     let v = c.loop-v.v in
+loop-v-preserved c a e p = let v = c.loop-v.v in
     let more : v < a.terms = omega (arith, e, c.loop-v-test.true) in
     let inv = c.loop-v.invariant a e p in
     ⊎_elim
