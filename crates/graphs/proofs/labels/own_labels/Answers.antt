@@ -1,8 +1,6 @@
--- `graphs::labels::own_labels` meets its contract. The invariant: the places passed hold their own numbers. The measure is what is left of them.
-use mathlib.Core.Path.{refl}
-use Prim.Native.Nat.{◌-◌}
-use native.Mathlib.Omega.{arith}
-use Rattle.tables.proofs.Records.{Filling, filling_none, filling_more}
+-- `graphs::labels::own_labels` meets its contract: the places passed hold their own numbers.
+use Rattle.std.proofs.Common.{refl, arith}
+use Rattle.tables.proofs.Records.{filling_none, filling_more}
 use Rattle.graphs.proofs.LabelArray.{own_labels}
 use Rattle.graphs.proofs.labels.own_labels.Goals as goal
 

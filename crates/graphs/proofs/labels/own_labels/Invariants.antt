@@ -1,9 +1,6 @@
--- `graphs::labels::own_labels` meets its contract. The invariant: the places passed hold their own numbers. The measure is what is left of them.
-use mathlib.Core.Path.{refl}
-use Prim.Native.Nat.{◌-◌}
-use native.Mathlib.Omega.{arith}
-use Rattle.tables.proofs.Records.{Filling, filling_none, filling_more}
-use Rattle.graphs.proofs.LabelArray.{own_labels}
+-- `graphs::labels::own_labels`: the places passed hold their own numbers. The measure is what is left of them.
+use Rattle.std.proofs.Common.{◌-◌}
+use Rattle.tables.proofs.Records.{Filling}
 use Rattle.graphs.proofs.labels.own_labels.Given as goal
 
 abbrev pub invariant-loop-v : goal.invariant-loop-v

@@ -1,11 +1,6 @@
--- `graphs::labels::relabel` meets its contract. The invariant: the places passed are changed. The measure is what is left of them.
-use mathlib.Core.Bool.{cond}
-use mathlib.Core.Path.{◌≡◌, refl}
-use Prim.Native.Nat.{◌-◌}
-use native.Mathlib.Omega.{arith}
-use lib.Dec.{eqb}
-use lib.ListN.{length}
-use Rattle.graphs.proofs.Changing.{Changing, changing_set, changing_all}
+-- `graphs::labels::relabel`: the places passed are changed. The measure is what is left of them.
+use Rattle.std.proofs.Common.{cond, ◌≡◌, ◌-◌, eqb, length}
+use Rattle.graphs.proofs.Changing.{Changing}
 use Rattle.graphs.proofs.labels.relabel.Given as goal
 
 abbrev pub invariant-loop-place : goal.invariant-loop-place

@@ -1,8 +1,6 @@
--- `graphs::paths::close_up` meets its contract: the numbers are put behind the first ones one by one, and none is written over before it is moved.
-use native.Mathlib.Omega.{arith}
-use mathlib.Core.Path.{refl}
-use Prim.Native.Nat.{◌-◌}
-use Rattle.graphs.proofs.Climbs.{Closing, closing_more, closing_all}
+-- `graphs::paths::close_up`: the numbers are put behind the first ones one by one, and none is written over before it is moved.
+use Rattle.std.proofs.Common.{◌-◌}
+use Rattle.graphs.proofs.Climbs.{Closing}
 use Rattle.graphs.proofs.paths.close_up.Given as goal
 
 abbrev pub invariant-loop-i : goal.invariant-loop-i

@@ -1,6 +1,5 @@
 -- `graphs::rooting::pass` meets its contract: the edges looked at lead to nothing new, or something more was reached.
 use Rattle.std.proofs.Common.{arith, ◌≡◌, ℕ, ◌<◌, subst}
-use Rattle.closure.specs.Forests.{EndsBelow}
 use Rattle.graphs.specs.Layout.{newest_first, last_first, edges_of}
 use Rattle.graphs.specs.Rooting.{Closed}
 use Rattle.graphs.proofs.Numbered.{each_by}

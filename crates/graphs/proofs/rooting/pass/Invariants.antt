@@ -1,4 +1,4 @@
--- `graphs::rooting::pass` meets its contract: the edges looked at lead to nothing new, or something more was reached.
+-- `graphs::rooting::pass`: the edges looked at lead to nothing new, or something more was reached.
 use Rattle.std.proofs.Common.{ℕ, ◌≤◌, ◌<◌, ◌-◌, get_or}
 use Rattle.graphs.specs.Layout.{no_edge, newest_first}
 use Rattle.graphs.specs.Rooting.{rooting}

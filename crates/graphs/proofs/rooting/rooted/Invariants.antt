@@ -1,9 +1,7 @@
--- `graphs::rooting::rooted` meets its contract: every pass but the last reaches more of the 511 vertices, and after the last no edge leads on.
-use native.Mathlib.Omega.{arith}
-use Prim.Native.Nat.{◌-◌}
+-- `graphs::rooting::rooted`: every pass but the last reaches more of the 511 vertices.
+use Rattle.std.proofs.Common.{◌-◌}
 use Rattle.graphs.specs.Layout.{edges_of}
 use Rattle.graphs.specs.Rooting.{rooting, Growing}
-use Rattle.graphs.proofs.Rooted.{all_rooted, reached_within}
 use Rattle.graphs.proofs.rooting.rooted.Given as goal
 
 abbrev pub invariant-loop-reached : goal.invariant-loop-reached

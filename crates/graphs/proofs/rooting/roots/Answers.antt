@@ -15,8 +15,8 @@ loop-v-preserved c =
     let m = c.loop-v.invariant in
     let h = c.loop-v-test.true in
     elim c.if-labels-v.branch [
-      then-labels-v w ↦ marking_same w.rank-is w.reached-is (marking_root m h w.if-labels-v.true) |
-      else-labels-v w ↦ marking_same w.rank-is w.reached-is (marking_other m h w.if-labels-v.false)
+      | then-labels-v w ↦ marking_same w.rank-is w.reached-is (marking_root m h w.if-labels-v.true)
+      | else-labels-v w ↦ marking_same w.rank-is w.reached-is (marking_other m h w.if-labels-v.false)
     ]
 
 pub returns : goal.returns

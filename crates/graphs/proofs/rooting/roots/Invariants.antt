@@ -1,8 +1,6 @@
--- `graphs::rooting::roots` meets its contract: the numbers that are their own labels are marked, from the front.
-use native.Mathlib.Omega.{arith}
-use mathlib.Core.Logic.{⊎_elim}
-use Prim.Native.Nat.{◌-◌}
-use Rattle.graphs.proofs.Rooted.{positives_length, Marking, marking_same, marking_none, marking_root, marking_other, marking_growing}
+-- `graphs::rooting::roots`: the numbers that are their own labels are marked, from the front.
+use Rattle.std.proofs.Common.{◌-◌}
+use Rattle.graphs.proofs.Rooted.{Marking}
 use Rattle.graphs.proofs.rooting.roots.Given as goal
 
 abbrev pub invariant-loop-v : goal.invariant-loop-v
