@@ -1,6 +1,6 @@
 -- Two climbs toward the root, from the ends of a path, until they meet.
 use mathlib.Core.List.Memᴰ
-use mathlib.Core.List.{List, [], ◌∷◌, ◌++◌, map, map-append, append_assoc, Memᴰ}
+use mathlib.Core.List.{List, [], ◌∷◌, ◌++◌, map, map-append, append_assoc, append-nil, Memᴰ}
 use mathlib.Core.Logic.{inl, inr, ⊎_elim}
 use mathlib.Core.Path.{◌≡◌, refl, sym, ap, ap₂, subst, ◌∙◌}
 use Prim.Native.Nat.{ℕ, suc, ◌+◌, ◌-◌, ◌≤◌, ◌<◌}
@@ -42,6 +42,27 @@ pub record Closing (l : List ℕ) (to from : ℕ) (m : List ℕ) (k i : ℕ) : T
   pub short : i ≤ 511
   pub gap : k + from ≡ i + to
   pub whole : take k m ++ drop i m ≡ take to l ++ drop from l
+
+module _ {l : List ℕ} {to from : ℕ} {m : List ℕ} {k i : ℕ} (w : Closing l to from m k i) where
+  -- one of them
+  pub closing_more : i < 511 → Closing l to from (set m k (get_or m i 0)) (k + 1) (i + 1)
+  closing_more h =
+      record {
+        long = length-set m k (get_or m i 0) ∙ w.long;
+        order = omega (arith, w.order);
+        short = omega arith;
+        gap = omega (arith, w.gap);
+        whole = ap₂ (λ (x y : List ℕ). x ++ y) (take_more m k (get_or m i 0) (omega (arith, w.long, w.order))) (drop-set-lt (i + 1) m k (get_or m i 0) (omega (arith, w.order))) ∙
+            append_assoc (take k m) (get_or m i 0 ∷ []) (drop (i + 1) m) ∙
+            ap (λ (x : List ℕ). take k m ++ x) (rw add-one (sym (drop-cons m i 0 (omega (arith, w.long))))) ∙
+            w.whole;
+      }
+
+  -- all of them
+  pub closing_all : from ≤ 511 → 511 ≤ i → take (to + (511 - from)) m ≡ take to l ++ drop from l
+  closing_all f h =
+      let n : to + (511 - from) ≡ k = omega (arith, w.gap, w.short) in
+      ap (λ (x : ℕ). take x m) n ∙ sym (append-nil (take k m)) ∙ ap (λ (x : List ℕ). take k m ++ x) (sym (drop_of_length-le m {i = i} (omega (arith, w.long)))) ∙ w.whole
 
 -- ---- where the climbs have been
 

@@ -10,6 +10,7 @@ use Rattle.running.specs.Keys.{no_row, key_of, keys_of}
 use Rattle.running.proofs.Arrays.{filling_kept}
 use Rattle.running.proofs.Agreeing.{key_place, no_key}
 use Rattle.running.proofs.congruence.keys.Goals as goal
+use Rattle.running.proofs.congruence.keys.Goals.{then-vertices-t, else-vertices-t}
 
 pub loop-t-init : goal.loop-t-init
 loop-t-init c = subst (Filling 256 0 _ _ 0) (sym c.requires.2) (filling_none 256 0 _ _)
@@ -19,10 +20,10 @@ key-requires c = c.requires.1 c.loop-t.t (omega arith)
 
 pub loop-t-preserved : goal.loop-t-preserved
 loop-t-preserved c = let inv = c.loop-t.invariant in
-    ⊎_elim
-    (λ w. let r = filling_more _ _ _ _ _ _ (w.3.result + 1) (omega arith) inv c.loop-t-test.true (key_place _ _ _ w.0.taken w.3.ensures.0) in (r.0, w.4 ∙ r.1))
-    (λ w. let r = filling_kept _ _ _ _ _ _ (omega arith) inv c.loop-t-test.true (no_key _ _ w.0.left) in (r.0, w.1 ∙ r.1))
-    c.if-vertices-t.branch
+    elim c.if-vertices-t.branch [
+        then-vertices-t w ↦ let r = filling_more _ _ _ _ _ _ (w.key.result + 1) (omega arith) inv c.loop-t-test.true (key_place _ _ _ w.if-vertices-t.true w.key.ensures.0) in (r.0, w.all-is ∙ r.1)
+      | else-vertices-t w ↦ let r = filling_kept _ _ _ _ _ _ (omega arith) inv c.loop-t-test.true (no_key _ _ w.if-vertices-t.false) in (r.0, w.all-is ∙ r.1)
+      ]
 
 pub returns : goal.returns
 unfolding keys_of

@@ -8,6 +8,7 @@ use Rattle.running.specs.Keys.{candidate}
 use Rattle.running.proofs.Candidates.{no_candidate, other_key, other_test, is_candidate, not_next}
 use Rattle.running.proofs.Ends.{before_end}
 use Rattle.running.proofs.search.partner.Goals as goal
+use Rattle.running.proofs.search.partner.Goals.{else-key-keys-via-then-key-keys+else-symbol-symbols, else-key-keys-via-else-key-keys}
 
 pub returns-then-key-eq0 : goal.returns-then-key-eq0
 returns-then-key-eq0 c k l h = no_candidate _ _ _ _ _ c.if-key-eq0.true
@@ -24,7 +25,10 @@ returns-then-symbol-symbols c = let inv = c.loop-t.invariant in
 
 pub loop-t-preserved : goal.loop-t-preserved
 loop-t-preserved c = let inv = c.loop-t.invariant in
-    (omega arith, inv.1, not_next _ _ _ inv.2 (⊎_elim (λ w. other_test _ _ _ _ _ w.3.left) (λ w. other_key _ _ _ _ _ w.left) c.else-key-keys.branch))
+    (omega arith, inv.1, not_next _ _ _ inv.2 (elim c.else-key-keys.branch [
+        else-key-keys-via-then-key-keys+else-symbol-symbols w ↦ other_test _ _ _ _ _ w.if-symbol-symbols.false
+      | else-key-keys-via-else-key-keys w ↦ other_key _ _ _ _ _ w.if-key-keys.false
+      ]))
 
 pub returns : goal.returns
 returns c k l h w = c.loop-t.invariant.2 k l (omega (arith, before_end _ _ _ _ _ _ k c.requires.2 h w)) w

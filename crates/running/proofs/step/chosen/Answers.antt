@@ -25,7 +25,7 @@ pub bounds-of_t-j : goal.bounds-of_t-j
 bounds-of_t-j c = omega (arith, c.requires.small)
 
 pub lay_path-hops-requires : goal.lay_path-hops-requires
-lay_path-hops-requires c = (can_walk c.requires c.loop-j.j c.loop-j-test.true, c.loop-j.invariant.0)
+lay_path-hops-requires c = record { u_bound = can_walk c.requires c.loop-j.j c.loop-j-test.true; room = c.loop-j.invariant.0 }
 
 pub first_shared-met-requires : goal.first_shared-met-requires
 first_shared-met-requires c = let w = c.requires in
