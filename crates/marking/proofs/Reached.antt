@@ -140,13 +140,13 @@ module _ (ts : List Term) (ls : List Literal) (table : List Term) (p : Pair) whe
   b_hops (along {h = h} b m c o r) blue on = apart (sym (ap is_b (blue h m)) ∙ c)
 
   -- what a path clause of one of its premises concludes, a path reaches without its own factors
-  pub premise_under : (G : Graph) → SoundGraph ts ls table G → {π : Path} (u v : ℕ) → T (joined G u v) → π ≡ path G u v → {q : Pair} → Premise table q π → Concludes (path G q.left q.right) → Reached table false p false π
-  premise_under G s {π} u v j e {q} (own {f = f} k c t) r =
+  pub premise_under : {q : Pair} (G : Graph) → SoundGraph ts ls table G → {π : Path} (u v : ℕ) → T (joined G u v) → π ≡ path G u v → Premise table q π → Concludes (path G q.left q.right) → Reached table false p false π
+  premise_under {q} G s {π} u v j e (own {f = f} k c t) r =
       let i = factor_path G (sound_forest ts ls table G s) u v j (subst (λ (ρ : Path). Memᴰ f (factors ρ)) e k) in
       let here = subst (λ (x : Pair). ConcludesBetween G x.left x.right) t (premise_joins G s u v j e (own k c t), r) in
       let hops = subst Concludes (sym i.1) (sides_between (ConcludesBetween G) (concludes_turn G s) f.from f.to here).1 in
       b_hops hops (λ h m. (factors_stretch π k).one_colour h m ∙ c) (λ h m. factor_hop π k m)
-  premise_under G s {π} u v j e {q} (parent {h = h} k c n o x) r =
+  premise_under {q} G s {π} u v j e (parent {h = h} k c n o x) r =
       let m = factor_hop π k n in
       let of = path_hop G u v (subst (λ (ρ : Path). Memᴰ h ρ) e m) in
       let a = parent_path ts ls table (hop_sound ts ls table of s) o in
@@ -190,7 +190,7 @@ module _ (ts : List Term) (ls : List Literal) (table : List Term) (p : Pair) whe
       clause_step G s u v j e (λ h m H le. reached_clause d H (omega (arith, older_fewer (path_hop G u v (subst (λ (ρ : Path). Memᴰ h ρ) e m))))) r
 
   -- and what a path clause concludes is reached
-  pub clause_reached : (G : Graph) → SoundGraph ts ls table G → {π : Path} (u v : ℕ) → T (joined G u v) → π ≡ path G u v → {c : Clause} → PathClause table c π → c.conclusion ≡ equals p → Concludes π
+  pub clause_reached : {c : Clause} (G : Graph) → SoundGraph ts ls table G → {π : Path} (u v : ℕ) → T (joined G u v) → π ≡ path G u v → PathClause table c π → c.conclusion ≡ equals p → Concludes π
   clause_reached G s {π} u v j e (inside {h = h} k c n o x) q =
       let m = factor_hop π k n in
       let of = path_hop G u v (subst (λ (ρ : Path). Memᴰ h ρ) e m) in

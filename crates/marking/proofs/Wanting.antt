@@ -7,7 +7,6 @@ use mathlib.Core.Path.{◌≡◌, refl, sym, ap, subst, ◌∙◌}
 use Prim.Native.Nat.{ℕ, suc, ◌+◌, ◌≤◌, ◌<◌}
 use native.Mathlib.Numerals.{add-one}
 use native.Mathlib.Omega.{arith}
-use borrow.Author.Tests.{not-true, not-false}
 use lib.ListN.{length, get_or, set, length-set}
 use Rattle.tables.specs.Words.{Pair}
 use Rattle.closure.specs.Graph.{Hop, Path}
@@ -163,14 +162,13 @@ module _ (inb : List Bool) (stops edges : List ℕ) (lo hi : ℕ) (b mode : Bool
     pub followed : (π : Path) → Trailed inb stops edges hi lo π → (k : ℕ) → Marked under' k ↔ (Marked under k ⊎ ((b ≡ false) × EdgeOf b π k))
 
   -- where clauses are read, the A-edges are marked
-  pub under_count : (under under' : List Bool) → not b ≡ true → EdgesAdded inb stops edges lo hi false under under' → UnderDone under under'
-  under_count under under' n f =
-      let e = not-true b n in
+  pub under_count : (under under' : List Bool) → b ≡ false → EdgesAdded inb stops edges lo hi false under under' → UnderDone under under'
+  under_count under under' e f =
       record { sized = f.sized; followed = λ π t k. let y = f.added π t k in (λ x. ⊎_elim inl (λ z. inr (e, subst (λ (c : Bool). EdgeOf c π k) (sym e) z)) (y.0 x), λ x. y.1 (⊎_elim inl (λ z. inr (subst (λ (c : Bool). EdgeOf c π k) e z.1)) x)) }
 
   -- where premises are read, nothing is
-  pub under_left : (under : List Bool) → not b ≡ false → length under ≡ 510 → UnderDone under under
-  under_left under n s = record { sized = s; followed = λ π t k. (inl, λ x. ⊎_elim (λ z. z) (λ z. absurd (flags_differ true false refl (sym (not-false b n) ∙ z.0))) x) }
+  pub under_left : (under : List Bool) → b ≡ true → length under ≡ 510 → UnderDone under under
+  under_left under e s = record { sized = s; followed = λ π t k. (inl, λ x. ⊎_elim (λ z. z) (λ z. absurd (flags_differ true false refl (sym e ∙ z.0))) x) }
 
   -- together
   pub all_wanted : (pairs rows inside under pairs' rows' inside' under' : List Bool) → EndsDone pairs rows pairs' rows' → EdgesAdded inb stops edges lo hi (not b) inside inside' → UnderDone under under' → Wanted inb stops edges lo hi b mode pairs rows inside under pairs' rows' inside' under'

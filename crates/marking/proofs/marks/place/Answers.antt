@@ -1,6 +1,5 @@
 -- `place` meets its contract, by the test of its two arguments.
 use mathlib.Core.Path.{sym, ap}
-use borrow.Author.Rules.{rules}
 use Rattle.marking.specs.Marks.{place_of}
 use Rattle.marking.proofs.Squares.{between_below, between_above}
 use Rattle.marking.proofs.marks.place.Goals as goal

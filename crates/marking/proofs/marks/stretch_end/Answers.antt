@@ -1,8 +1,7 @@
 -- `stretch_end` meets its contract: the edges passed have the colour of the first.
-use mathlib.Core.Path.{◌≡◌, refl}
-use Prim.Native.Nat.{◌-◌}
+use mathlib.Core.Path.{refl}
 use native.Mathlib.Omega.{arith}
-use Rattle.marking.proofs.Trails.{colour_at, SameTo, same_first, same_more, same_other, same_all, flags_differ, flags_same}
+use Rattle.marking.proofs.Trails.{same_first, same_more, same_other, same_all, flags_differ, flags_same}
 use Rattle.marking.proofs.marks.stretch_end.Goals as goal
 
 pub overflow_cast-first : goal.overflow_cast-first

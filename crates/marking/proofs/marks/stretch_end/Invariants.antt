@@ -1,8 +1,7 @@
 -- `stretch_end` meets its contract: the edges passed have the colour of the first.
-use mathlib.Core.Path.{◌≡◌, refl}
+use mathlib.Core.Path.{◌≡◌}
 use Prim.Native.Nat.{◌-◌}
-use native.Mathlib.Omega.{arith}
-use Rattle.marking.proofs.Trails.{colour_at, SameTo, same_first, same_more, same_other, same_all, flags_differ, flags_same}
+use Rattle.marking.proofs.Trails.{colour_at, SameTo}
 use Rattle.marking.proofs.marks.stretch_end.Given as goal
 
 abbrev pub invariant-loop-i : goal.invariant-loop-i

@@ -1,11 +1,10 @@
 -- `want_edges` meets its contract: the edges passed that have the colour are marked.
-use mathlib.Core.Logic.{⊎_elim}
 use mathlib.Core.Path.{sym, subst}
-use Prim.Native.Nat.{◌-◌}
 use native.Mathlib.Omega.{arith}
 use Rattle.marking.proofs.Trails.{flags_agree, flags_not}
 use Rattle.marking.proofs.Wanting.{EdgesUpTo, edges_none, edges_mark, edges_skip, edges_all}
 use Rattle.marking.proofs.marks.want_edges.Goals as goal
+use Rattle.marking.proofs.marks.want_edges.Goals.{then-inb-e, else-inb-e}
 
 pub loop-i-init : goal.loop-i-init
 loop-i-init c = edges_none _ _ _ _ _ _ _ c.requires.within.forward c.requires.marks_len
@@ -22,8 +21,10 @@ bounds-marks-e c = c.requires.within.edges_low c.loop-i.i c.loop-i-test.true
 pub loop-i-preserved : goal.loop-i-preserved
 loop-i-preserved c = let low = c.requires.within.edges_low c.loop-i.i c.loop-i-test.true in
     let u = c.loop-i.invariant in
-    ⊎_elim (λ w. subst (EdgesUpTo _ _ _ _ _ _ _ _) (sym w.1) (edges_mark _ _ _ _ _ _ _ _ _ c.loop-i-test.true low u (flags_agree _ _ w.0.taken)))
-    (λ w. subst (EdgesUpTo _ _ _ _ _ _ _ _) (sym w.1) (edges_skip _ _ _ _ _ _ _ _ _ c.loop-i-test.true low u (flags_not _ _ w.0.left))) c.if-inb-e.branch
+    elim c.if-inb-e.branch [
+      | then-inb-e w ↦ subst (EdgesUpTo _ _ _ _ _ _ _ _) (sym w.marks-is) (edges_mark _ _ _ _ _ _ _ _ _ c.loop-i-test.true low u (flags_agree _ _ w.if-inb-e.true))
+      | else-inb-e w ↦ subst (EdgesUpTo _ _ _ _ _ _ _ _) (sym w.marks-is) (edges_skip _ _ _ _ _ _ _ _ _ c.loop-i-test.true low u (flags_not _ _ w.if-inb-e.false))
+    ]
 
 pub returns : goal.returns
 returns c = edges_all _ _ _ _ _ _ _ _ _ c.loop-i-test.false c.loop-i.invariant

@@ -1,10 +1,6 @@
 -- `want_edges` meets its contract: the edges passed that have the colour are marked.
-use mathlib.Core.Logic.{⊎_elim}
-use mathlib.Core.Path.{sym, subst}
 use Prim.Native.Nat.{◌-◌}
-use native.Mathlib.Omega.{arith}
-use Rattle.marking.proofs.Trails.{flags_agree, flags_not}
-use Rattle.marking.proofs.Wanting.{EdgesUpTo, edges_none, edges_mark, edges_skip, edges_all}
+use Rattle.marking.proofs.Wanting.{EdgesUpTo}
 use Rattle.marking.proofs.marks.want_edges.Given as goal
 
 abbrev pub invariant-loop-i : goal.invariant-loop-i

@@ -1,10 +1,6 @@
 -- `want_factors` meets its contract: the factors passed that have the colour are marked by their ends.
 use Prim.Native.Nat.{◌-◌}
-use native.Mathlib.Nat.{le_refl}
-use native.Mathlib.Omega.{arith}
-use Rattle.marking.proofs.Squares.{between_place}
-use Rattle.marking.proofs.Trails.{flags_agree, flags_not, rows_part}
-use Rattle.marking.proofs.Wanting.{FactorsUpTo, factors_none, factors_mark, factors_skip, factors_all}
+use Rattle.marking.proofs.Wanting.{FactorsUpTo}
 use Rattle.marking.proofs.marks.want_factors.Given as goal
 
 abbrev pub invariant-loop-at : goal.invariant-loop-at

@@ -6,12 +6,12 @@ use Rattle.marking.proofs.marks.want_outer.Goals as goal
 
 pub want_along-requires : goal.want_along-requires
 want_along-requires c = let p = c.requires in
-    record { within = within_part _ _ _ _ _ (omega arith) (omega (arith, p.0.1, p.0.2)) p.0.0; rows_of = (rows_part _ _ _ _ _ (omega (arith, p.0.1, p.0.2)) refl p.1.0, p.1.1) }
+    record { within = within_part _ _ _ _ _ (omega arith) (omega (arith, p.within.1, p.within.2)) p.within.0; rows_of = (rows_part _ _ _ _ _ (omega (arith, p.within.1, p.within.2)) refl p.rows_of.0, p.rows_of.1) }
 
 pub want_along-requires-2 : goal.want_along-requires-2
 want_along-requires-2 c = let p = c.requires in
     let w = c.want_along.ensures in
-    record { within = within_part _ _ _ _ _ (omega (arith, p.0.1, p.0.2)) (omega arith) p.0.0; rows_of = (rows_part _ _ _ _ _ (omega arith) w.same p.1.0, w.in_order) }
+    record { within = within_part _ _ _ _ _ (omega (arith, p.within.1, p.within.2)) (omega arith) p.within.0; rows_of = (rows_part _ _ _ _ _ (omega arith) w.same p.rows_of.0, w.in_order) }
 
 pub shape_of-pairs : goal.shape_of-pairs
 shape_of-pairs c = c.want_along-2.ensures.same ∙ c.want_along.ensures.same

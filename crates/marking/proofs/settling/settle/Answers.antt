@@ -1,9 +1,7 @@
 -- `settle` meets its contract: what is owed stays the same while the marked edges are read, the newest first.
 use mathlib.Core.Path.{sym, ◌∙◌}
 use native.Mathlib.Omega.{arith}
-use Rattle.marking.specs.Drawn.{drawing}
-use Rattle.marking.proofs.Owing.{drawn_kept, SettledTo, settle_none, settle_asked, settle_left, settle_all}
-use borrow.Author.Rules.{rules}
+use Rattle.marking.proofs.Owing.{drawn_kept, settle_none, settle_asked, settle_left, settle_all}
 use Rattle.marking.proofs.settling.settle.Goals as goal
 
 pub loop-i-init : goal.loop-i-init
@@ -23,7 +21,7 @@ bounds-under-i c = omega (arith, c.loop-i.invariant.within, c.requires.drawn_som
 
 pub settle_edge-requires : goal.settle_edge-requires
 settle_edge-requires c = let x = c.loop-i.invariant in
-    (drawn_kept _ _ _ x.same c.requires.drawn_some, (x.in_order, omega (arith, x.within, c.loop-i-test.true)))
+    record { drawn_some = drawn_kept _ _ _ x.same c.requires.drawn_some; in_order = x.in_order; i_lt_count = omega (arith, x.within, c.loop-i-test.true) }
 
 pub loop-i-smaller-then-asked : goal.loop-i-smaller-then-asked
 loop-i-smaller-then-asked c = omega (arith, c.loop-i-test.true)

@@ -1,9 +1,6 @@
 -- `settle` meets its contract: what is owed stays the same while the marked edges are read, the newest first.
-use mathlib.Core.Path.{sym, ◌∙◌}
-use native.Mathlib.Omega.{arith}
 use Rattle.marking.specs.Drawn.{drawing}
-use Rattle.marking.proofs.Owing.{drawn_kept, SettledTo, settle_none, settle_asked, settle_left, settle_all}
-use borrow.Author.Rules.{rules}
+use Rattle.marking.proofs.Owing.{SettledTo}
 use Rattle.marking.proofs.settling.settle.Given as goal
 
 abbrev pub invariant-loop-i : goal.invariant-loop-i

@@ -1,10 +1,8 @@
 -- `settle_edge` meets its contract: the paths at the places passed are read.
 use Prim.Native.Nat.{◌≤◌, ◌-◌}
-use native.Mathlib.Omega.{arith}
-use borrow.Author.Rules.{rules}
-use Rattle.graphs.specs.Trails.{Room, trail}
+use Rattle.graphs.specs.Trails.{Room}
 use Rattle.marking.specs.Drawn.{drawing}
-use Rattle.marking.proofs.Owing.{EdgeTo, edge_none, edge_more, edge_all, Bounds, bounds, path_asked, path_rows, path_given}
+use Rattle.marking.proofs.Owing.{EdgeTo}
 use Rattle.marking.proofs.settling.settle_edge.Given as goal
 
 abbrev pub invariant-loop-j : goal.invariant-loop-j
