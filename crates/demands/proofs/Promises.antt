@@ -1,5 +1,4 @@
 -- The promises: the demands of specs/Demands.antt, proved of every call. docs/PROMISES.md goes through them sentence by sentence.
-use mathlib.Core.Bool.{not}
 use mathlib.Core.List.{List, ◌++◌, Memᴰ}
 use mathlib.Core.Logic.{◌↔◌}
 use mathlib.Core.Option.{Option, some, none}
@@ -46,7 +45,7 @@ use Rattle.demands.specs.Answers.{numbers_of}
 use Rattle.demands.specs.Buffers.{Buffers, Returned, class_number, term_bytes, written_over, class_at, LowestInClass}
 use Rattle.demands.specs.Verdicts.{Verdict, records_in, answered}
 use Rattle.demands.specs.Refusals.{rows_of}
-use Rattle.demands.specs.Call.{refused, judged, Called}
+use Rattle.demands.specs.Call.{judged, Called}
 use Rattle.demands.specs.Demands.{Demand1, Classes, Demand2, Demand3, Demands}
 use Rattle.demands.proofs.AddedTerms.{added_bytes, added_bytes_length, table_read}
 use Rattle.demands.proofs.AddedFit.{added_fits}
