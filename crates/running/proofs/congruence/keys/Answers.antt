@@ -21,9 +21,9 @@ key-requires c = c.requires.1 c.loop-t.t (omega arith)
 pub loop-t-preserved : goal.loop-t-preserved
 loop-t-preserved c = let inv = c.loop-t.invariant in
     elim c.if-vertices-t.branch [
-        then-vertices-t w ↦ let r = filling_more _ _ _ _ _ _ (w.key.result + 1) (omega arith) inv c.loop-t-test.true (key_place _ _ _ w.if-vertices-t.true w.key.ensures.0) in (r.0, w.all-is ∙ r.1)
+      | then-vertices-t w ↦ let r = filling_more _ _ _ _ _ _ (w.key.result + 1) (omega arith) inv c.loop-t-test.true (key_place _ _ _ w.if-vertices-t.true w.key.ensures.0) in (r.0, w.all-is ∙ r.1)
       | else-vertices-t w ↦ let r = filling_kept _ _ _ _ _ _ (omega arith) inv c.loop-t-test.true (no_key _ _ w.if-vertices-t.false) in (r.0, w.all-is ∙ r.1)
-      ]
+    ]
 
 pub returns : goal.returns
 unfolding keys_of

@@ -61,11 +61,11 @@ loop-i-preserved c = let literals = c.args.literals.now in
     let inv = c.loop-i.invariant.1 in (
       omega arith,
       λ bs passed s h. elim c.if-l-labels.branch [
-          then-l-labels w ↦ subst (λ (x : Arrays). ShowsAfter bs literals passed (i + 1) x) (sym (ap₂ (λ (g : Kept) (l : List ℕ). regraphed s g l) w.grown-is w.labels-is))
-              (turn_taken bs literals passed i more f e _ (inv bs passed s h) w.if-l-labels.true w.side_of-side.result w.side_of-side.ensures _ (λ st shows. w.joined_on-grown.ensures (terms_of bs) (literals_of literals) st s shows))
+        | then-l-labels w ↦ subst (λ (x : Arrays). ShowsAfter bs literals passed (i + 1) x) (sym (ap₂ (λ (g : Kept) (l : List ℕ). regraphed s g l) w.grown-is w.labels-is))
+            (turn_taken bs literals passed i more f e _ (inv bs passed s h) w.if-l-labels.true w.side_of-side.result w.side_of-side.ensures _ (λ st shows. w.joined_on-grown.ensures (terms_of bs) (literals_of literals) st s shows))
         | else-l-labels w ↦ subst (λ (x : Arrays). ShowsAfter bs literals passed (i + 1) x) (sym (ap₂ (λ (g : Kept) (l : List ℕ). regraphed s g l) w.grown-is w.labels-is))
-              (turn_left bs literals passed i more f e _ (inv bs passed s h) w.if-l-labels.false)
-        ],
+            (turn_left bs literals passed i more f e _ (inv bs passed s h) w.if-l-labels.false)
+      ],
     )
 
 pub returns : goal.returns

@@ -24,11 +24,14 @@ returns-then-symbol-symbols c = let inv = c.loop-t.invariant in
     (omega (arith, inv.0), omega (arith, inv.1), is_candidate _ _ _ _ _ c.if-key-eq0.false c.if-key-keys.true c.if-symbol-symbols.true, inv.2)
 
 pub loop-t-preserved : goal.loop-t-preserved
-loop-t-preserved c = let inv = c.loop-t.invariant in
-    (omega arith, inv.1, not_next _ _ _ inv.2 (elim c.else-key-keys.branch [
-        else-key-keys-via-then-key-keys+else-symbol-symbols w ↦ other_test _ _ _ _ _ w.if-symbol-symbols.false
-      | else-key-keys-via-else-key-keys w ↦ other_key _ _ _ _ _ w.if-key-keys.false
-      ]))
+loop-t-preserved c = let inv = c.loop-t.invariant in (
+  omega arith,
+  inv.1,
+  not_next _ _ _ inv.2 (elim c.else-key-keys.branch [
+    | else-key-keys-via-then-key-keys+else-symbol-symbols w ↦ other_test _ _ _ _ _ w.if-symbol-symbols.false
+    | else-key-keys-via-else-key-keys w ↦ other_key _ _ _ _ _ w.if-key-keys.false
+  ]),
+)
 
 pub returns : goal.returns
 returns c k l h w = c.loop-t.invariant.2 k l (omega (arith, before_end _ _ _ _ _ _ k c.requires.2 h w)) w

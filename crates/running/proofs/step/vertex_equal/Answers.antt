@@ -58,9 +58,9 @@ loop-v-preserved c a e p = let v = c.loop-v.v in
     let more : v < a.terms = omega (arith, e, c.loop-v-test.true) in
     let inv = c.loop-v.invariant a e p in
     elim c.if-symbols-v.branch [
-        then-symbols-v+else-same_row w ↦ other_more p v more inv w.if-symbols-v.true (sym w.same_row.ensures ∙ w.if-same_row.false)
+      | then-symbols-v+else-same_row w ↦ other_more p v more inv w.if-symbols-v.true (sym w.same_row.ensures ∙ w.if-same_row.false)
       | else-symbols-v w ↦ unlike_more p v more inv w.if-symbols-v.false
-      ]
+    ]
 
 pub returns : goal.returns
 returns c a e p = e ∙ equal_none p c.loop-v.v (c.loop-v.invariant a e p) (omega (arith, e, c.loop-v-test.false))
