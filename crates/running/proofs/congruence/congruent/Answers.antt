@@ -1,10 +1,8 @@
 -- `running::congruence::congruent` meets its contract. The invariant: the fields passed have the same labels. The measure is what is left of them.
-use mathlib.Core.Path.{◌≡◌, sym, ◌∙◌}
-use Prim.Native.Nat.{ℕ, ◌-◌, ◌≤◌, ◌<◌}
+use mathlib.Core.Path.{sym, ◌∙◌}
 use native.Mathlib.Nat.{not-suc-le-zero}
 use native.Mathlib.Omega.{arith}
 use borrow.Author.Count.{below_more}
-use Rattle.running.specs.Keys.{field_label}
 use Rattle.running.proofs.Agreeing.{fields_joined, fields_apart}
 use Rattle.running.proofs.congruence.congruent.Goals as goal
 

@@ -1,11 +1,7 @@
 -- `running::congruence::congruent` meets its contract. The invariant: the fields passed have the same labels. The measure is what is left of them.
-use mathlib.Core.Path.{◌≡◌, sym, ◌∙◌}
+use mathlib.Core.Path.{◌≡◌}
 use Prim.Native.Nat.{ℕ, ◌-◌, ◌≤◌, ◌<◌}
-use native.Mathlib.Nat.{not-suc-le-zero}
-use native.Mathlib.Omega.{arith}
-use borrow.Author.Count.{below_more}
 use Rattle.running.specs.Keys.{field_label}
-use Rattle.running.proofs.Agreeing.{fields_joined, fields_apart}
 use Rattle.running.proofs.congruence.congruent.Given as goal
 
 abbrev pub invariant-loop-j : goal.invariant-loop-j

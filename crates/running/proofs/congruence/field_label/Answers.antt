@@ -1,6 +1,5 @@
 -- `running::congruence::field_label` meets its contract: the row's field is within the array of labels.
 use native.Mathlib.Omega.{arith}
-use borrow.Author.Rules.{rules}
 use Rattle.running.proofs.congruence.field_label.Goals as goal
 
 pub offset_bounds-labels-at : goal.offset_bounds-labels-at

@@ -1,6 +1,5 @@
 -- `running::congruence::key` meets its contract: the four labels and the symbol stay below 2 ^ 63.
 use native.Mathlib.Omega.{arith}
-use borrow.Author.Rules.{rules}
 use Rattle.running.specs.Keys.{key_of}
 use Rattle.running.proofs.congruence.key.Goals as goal
 

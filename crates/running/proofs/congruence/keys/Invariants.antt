@@ -1,14 +1,9 @@
 -- `running::congruence::keys` meets its contract. The invariant: the keys of the terms passed are written. The measure is what is left of them.
 use mathlib.Core.Bool.{false, cond}
-use mathlib.Core.Logic.{⊎_elim}
-use mathlib.Core.Path.{sym, subst, ◌∙◌}
 use Prim.Native.Nat.{◌+◌, ◌-◌}
-use native.Mathlib.Omega.{arith}
 use lib.ListN.{get_or}
-use Rattle.tables.proofs.Records.{Filling, filling_none, filling_more, filling_all}
-use Rattle.running.specs.Keys.{no_row, key_of, keys_of}
-use Rattle.running.proofs.Arrays.{filling_kept}
-use Rattle.running.proofs.Agreeing.{key_place, no_key}
+use Rattle.tables.proofs.Records.{Filling}
+use Rattle.running.specs.Keys.{no_row, key_of}
 use Rattle.running.proofs.congruence.keys.Given as goal
 
 abbrev pub invariant-loop-t : goal.invariant-loop-t

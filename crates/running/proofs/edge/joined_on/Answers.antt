@@ -1,5 +1,4 @@
 -- `running::edge::joined_on` meets its contract: the graph and the labels are those of one edge more, and nothing else changes.
-use borrow.Author.Rules.{rules}
 use Rattle.running.proofs.Showing.{shows_edge}
 use Rattle.running.proofs.edge.joined_on.Goals as goal
 

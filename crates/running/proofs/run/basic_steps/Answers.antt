@@ -1,8 +1,7 @@
 -- `running::run::basic_steps` meets its contract. The invariant: the arrays show the state after the records passed. The measure is what is left of them.
 use mathlib.Core.List.{List}
-use mathlib.Core.Logic.{⊎_elim}
 use mathlib.Core.Path.{◌≡◌, sym, ap, ap₂, subst}
-use Prim.Native.Nat.{ℕ, ◌+◌, ◌-◌, ◌≤◌, ◌<◌}
+use Prim.Native.Nat.{ℕ, ◌+◌, ◌<◌}
 use native.Mathlib.Omega.{arith}
 use Rattle.tables.specs.Checks.{checked}
 use Rattle.tables.specs.TermTable.{terms_of}
@@ -10,9 +9,8 @@ use Rattle.tables.specs.LiteralTable.{literal_count, literal_record, literals_of
 use Rattle.reading.specs.Fields.{fields_of}
 use Rattle.tables.specs.declared.Check.TheVariants.{Sound}
 use Rattle.reading.specs.declared.literal.Fields.{Fields}
-use Rattle.closure.specs.Steps.{begin}
 use Rattle.graphs.specs.declared.graph.Graph.{Graph as Kept}
-use Rattle.running.specs.Shown.{Shows, regraphed}
+use Rattle.running.specs.Shown.{regraphed}
 use Rattle.running.specs.declared.state.State.{State as Arrays}
 use Rattle.running.proofs.Showing.{shown_length}
 use Rattle.running.proofs.BasicSteps.{ShowsAfter, sides_small, after_none, after_all, after_edges, turn_taken, turn_left}

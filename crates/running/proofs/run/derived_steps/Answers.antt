@@ -1,17 +1,12 @@
 -- `running::run::derived_steps` meets its contract. The invariant: the state is one of a run, and the turns left come to the same end. The measure is
 -- the turns left.
-use mathlib.Core.Logic.{⊎_elim}
 use mathlib.Core.Option.{some}
 use mathlib.Core.Path.{◌≡◌, sym, ap, subst, ◌∙◌}
-use Prim.Native.Nat.{◌-◌, ◌<◌}
+use Prim.Native.Nat.{◌-◌}
 use native.Mathlib.Omega.{arith}
-use borrow.Author.Rules.{rules}
-use lib.Dec.{T}
-use lib.ListN.{length}
 use Rattle.tables.specs.Words.{pair}
-use Rattle.closure.specs.OwnRun.{derivable, first_pair}
+use Rattle.closure.specs.OwnRun.{first_pair}
 use Rattle.running.specs.Keys.{pair_of}
-use Rattle.running.specs.Stepping.{OnRun}
 use Rattle.running.specs.declared.state.State.{State as Arrays}
 use Rattle.running.proofs.Showing.{shown_length}
 use Rattle.running.proofs.DerivedSteps.{plain_step}

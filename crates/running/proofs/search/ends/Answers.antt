@@ -1,6 +1,6 @@
 -- `running::search::ends` meets its contract. The invariant: the ends of the terms passed are laid down. The measure is what is left of them.
 use mathlib.Core.Path.{◌≡◌, sym, ap, subst, ◌∙◌}
-use Prim.Native.Nat.{ℕ, ◌-◌, ◌≤◌}
+use Prim.Native.Nat.{ℕ}
 use native.Mathlib.Omega.{arith}
 use lib.ListN.{length, length-set, length-replicate}
 use Rattle.running.specs.Keys.{EndsOf}

@@ -1,10 +1,8 @@
 -- `running::search::ends` meets its contract. The invariant: the ends of the terms passed are laid down. The measure is what is left of them.
-use mathlib.Core.Path.{◌≡◌, sym, ap, subst, ◌∙◌}
-use Prim.Native.Nat.{ℕ, ◌-◌, ◌≤◌}
-use native.Mathlib.Omega.{arith}
-use lib.ListN.{length, length-set, length-replicate}
+use mathlib.Core.Path.{◌≡◌}
+use Prim.Native.Nat.{◌-◌, ◌≤◌}
+use lib.ListN.{length}
 use Rattle.running.specs.Keys.{EndsOf}
-use Rattle.running.proofs.Ends.{no_ends, ends_more}
 use Rattle.running.proofs.search.ends.Given as goal
 
 abbrev pub invariant-loop-t : goal.invariant-loop-t

@@ -2,16 +2,13 @@
 -- holds the labels. The measure is what is left of the first terms, and then of the second ones.
 use mathlib.Core.Bool.{Bool}
 use mathlib.Core.Path.{◌≡◌, refl, subst}
-use Prim.Native.Nat.{ℕ, ◌+◌, ◌*◌, ◌-◌, ◌≤◌, ◌<◌}
+use Prim.Native.Nat.{ℕ, ◌≤◌, ◌<◌}
 use native.Mathlib.Omega.{arith}
-use borrow.Author.Rules.{rules}
 use lib.Dec.{T}
-use Rattle.closure.specs.Graph.{Graph}
-use Rattle.graphs.specs.Layout.{labels_of}
-use Rattle.running.specs.Keys.{EndsOf, candidate, NextFrom, searched}
+use Rattle.running.specs.Keys.{candidate, NextFrom, searched}
 use Rattle.running.specs.declared.search.Next.{Next}
-use Rattle.running.specs.declared.search.Next.TheVariants.{At, Nothing}
-use Rattle.running.proofs.PairTest.{NoneBefore, before_start, before_found, before_past, before_next, tested, found_first, found_none, tested_candidate, rows_refuse, rows_accept}
+use Rattle.running.specs.declared.search.Next.TheVariants.{Nothing}
+use Rattle.running.proofs.PairTest.{before_start, before_found, before_past, before_next, tested, found_first, found_none, tested_candidate, rows_refuse, rows_accept}
 use Rattle.running.proofs.search.first_pair.Goals as goal
 
 nothing_found : (p : ℕ → Bool) (from n : ℕ) (r : Next) → NextFrom p from n r → r ≡ Nothing → (k : ℕ) → from ≤ k → k < n → T (p k) → ⊥

@@ -1,17 +1,11 @@
 -- `running::search::first_pair` meets its contract. The invariant: no pair before that of s and from passes the test, for every graph of which the array
 -- holds the labels. The measure is what is left of the first terms, and then of the second ones.
-use mathlib.Core.Bool.{Bool}
-use mathlib.Core.Path.{◌≡◌, refl, subst}
-use Prim.Native.Nat.{ℕ, ◌+◌, ◌*◌, ◌-◌, ◌≤◌, ◌<◌}
-use native.Mathlib.Omega.{arith}
-use borrow.Author.Rules.{rules}
-use lib.Dec.{T}
+use mathlib.Core.Path.{◌≡◌}
+use Prim.Native.Nat.{◌+◌, ◌*◌, ◌-◌, ◌≤◌, ◌<◌}
 use Rattle.closure.specs.Graph.{Graph}
 use Rattle.graphs.specs.Layout.{labels_of}
-use Rattle.running.specs.Keys.{EndsOf, candidate, NextFrom, searched}
-use Rattle.running.specs.declared.search.Next.{Next}
-use Rattle.running.specs.declared.search.Next.TheVariants.{At, Nothing}
-use Rattle.running.proofs.PairTest.{NoneBefore, before_start, before_found, before_past, before_next, tested, found_first, found_none, tested_candidate, rows_refuse, rows_accept}
+use Rattle.running.specs.Keys.{EndsOf}
+use Rattle.running.proofs.PairTest.{NoneBefore, tested}
 use Rattle.running.proofs.search.first_pair.Given as goal
 
 abbrev pub invariant-loop-s : goal.invariant-loop-s

@@ -1,12 +1,7 @@
 -- `running::search::partner` meets its contract. The invariant: no term from the place on was a candidate. The measure is what is left of them.
-use mathlib.Core.Logic.{⊎_elim}
-use Prim.Native.Nat.{ℕ, ◌-◌, ◌%◌, ◌≤◌, ◌<◌}
-use native.Mathlib.Omega.{arith}
+use Prim.Native.Nat.{ℕ, ◌-◌, ◌≤◌, ◌<◌}
 use lib.Dec.{T}
-use lib.ListN.{get_or}
 use Rattle.running.specs.Keys.{candidate}
-use Rattle.running.proofs.Candidates.{no_candidate, other_key, other_test, is_candidate, not_next}
-use Rattle.running.proofs.Ends.{before_end}
 use Rattle.running.proofs.search.partner.Given as goal
 
 abbrev pub invariant-loop-t : goal.invariant-loop-t

@@ -1,12 +1,9 @@
 -- `running::step::chosen` meets its contract. The invariant: the terms chosen for the arguments passed stand in the row, and a path has room in the two
 -- arrays. The measure is what is left of the arguments.
-use mathlib.Core.Path.{refl, sym, ap, ◌∙◌}
 use Prim.Native.Nat.{◌-◌}
-use native.Mathlib.Omega.{arith}
-use borrow.Author.Rules.{rules}
 use Rattle.graphs.specs.Trails.{Room}
-use Rattle.running.specs.Stepping.{met_of, Choosing}
-use Rattle.running.proofs.Choices.{Chosen, chosen_nothing, chosen_all, chosen_stuck, chosen_more, can_walk, walks, stops_fit, stops_below, met_is, hands_none, hands_some}
+use Rattle.running.specs.Stepping.{Choosing}
+use Rattle.running.proofs.Choices.{Chosen}
 use Rattle.running.proofs.step.chosen.Given as goal
 
 abbrev pub invariant-loop-j : goal.invariant-loop-j

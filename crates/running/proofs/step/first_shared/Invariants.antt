@@ -1,11 +1,8 @@
 -- `running::step::first_shared` meets its contract. The invariant: the stops passed are not shared. The measure is what is left of them.
 use Prim.Native.Nat.{◌+◌, ◌-◌}
-use native.Mathlib.Omega.{arith}
-use borrow.Author.Tests.{eq-eqb, ne_eqb}
-use borrow.Author.Rules.{rules}
 use lib.Dec.{eqb}
 use lib.ListN.{get_or}
-use Rattle.running.proofs.Stops.{Failed, failed_none, failed_more, failed_until, failed_all}
+use Rattle.running.proofs.Stops.{Failed}
 use Rattle.running.proofs.step.first_shared.Given as goal
 
 abbrev pub invariant-loop-i : goal.invariant-loop-i

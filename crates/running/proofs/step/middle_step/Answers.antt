@@ -2,9 +2,7 @@
 use mathlib.Core.Logic.{⊎_elim, ◌⊎◌, inl, inr}
 use Rattle.std.proofs.Common.{ℕ, length}
 use mathlib.Core.Path.{◌≡◌, refl, sym, subst}
-use Prim.Native.Nat.{◌<◌}
 use native.Mathlib.Omega.{arith}
-use borrow.Author.Rules.{rules}
 use lib.ListN.{get_or}
 use Rattle.closure.specs.Steps.{table_of, vertex_equal, placed}
 use Rattle.running.specs.declared.Row.{Row}

@@ -1,11 +1,7 @@
 -- `running::step::same_row` meets its contract. The invariant: the fields passed agree. The measure is what is left of them.
-use mathlib.Core.Path.{◌≡◌, sym, ◌∙◌}
+use mathlib.Core.Path.{◌≡◌}
 use Prim.Native.Nat.{ℕ, ◌-◌, ◌≤◌, ◌<◌}
-use native.Mathlib.Nat.{not-suc-le-zero}
-use native.Mathlib.Omega.{arith}
-use borrow.Author.Count.{below_more}
 use lib.ListN.{get_or}
-use Rattle.tables.proofs.Records.{differ, agree}
 use Rattle.running.proofs.step.same_row.Given as goal
 
 abbrev pub invariant-loop-j : goal.invariant-loop-j

@@ -1,5 +1,4 @@
 -- `running::step::tied` meets its contract: nothing is done where the labels are the same, else there is one edge more.
-use borrow.Author.Rules.{rules}
 use Rattle.running.proofs.Tying.{shows_joined, shows_tied}
 use Rattle.running.proofs.step.tied.Goals as goal
 
