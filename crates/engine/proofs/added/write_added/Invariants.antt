@@ -1,0 +1,15 @@
+-- `engine::added::write_added` meets its contract. The invariant: the records of the terms passed are written. The measure is what is left of them.
+use mathlib.Core.Path.{◌≡◌, refl, sym, ap, ◌∙◌}
+use Prim.Native.Nat.{◌-◌, ◌≤◌}
+use native.Mathlib.Omega.{arith}
+use lib.ListN.{length}
+use Rattle.engine.specs.Ending.{record_bytes, record_in}
+use Rattle.engine.proofs.Writing.{Written, written_none, written_more, written_all}
+use borrow.Author.Rules.{rules}
+use Rattle.engine.proofs.added.write_added.Given as goal
+
+abbrev pub invariant-loop-i : goal.invariant-loop-i
+invariant-loop-i l = (l.i ≤ l.count) × (length l.added ≡ length l.initial.added) × Written (record_in l.given l.symbols l.arities l.rows) l.i l.initial.added l.added
+
+abbrev pub decreases-loop-i : goal.decreases-loop-i
+decreases-loop-i l = l.count - l.i
