@@ -23,7 +23,7 @@ pub loop-i-preserved : goal.loop-i-preserved
 unfolding record_bytes
 loop-i-preserved c = let inv = c.loop-i.invariant in (
   omega arith,
-  c.put.auto.1.1.0 ∙ inv.1,
+  c.put.auto.out ∙ inv.1,
   written_more 16 _ (λ k. refl) _ _ _ _ _ inv.2 c.put.ensures c.term_record-record.ensures,
 )
 

@@ -12,7 +12,7 @@ use borrow.Author.Rules.{rules}
 use Rattle.engine.proofs.classes.write_partition.Given as goal
 
 abbrev pub invariant-loop-i : goal.invariant-loop-i
-invariant-loop-i l = (l.i ≤ l.n) × (length l.partition ≡ length l.initial.partition) × Written (classWord l.used l.labels l.n) l.i l.initial.partition l.partition
+invariant-loop-i l = (l.i ≤ l.n) × (length l.partition ≡ length l.initial.partition) × Written (λ k. word_bytes (class_by l.used l.labels l.n k)) l.i l.initial.partition l.partition
 
 abbrev pub decreases-loop-i : goal.decreases-loop-i
 decreases-loop-i l = l.n - l.i
