@@ -7,14 +7,15 @@ use native.Mathlib.Omega.{arith}
 use borrow.Author.Tests.{ne_eqb, lt-ltb}
 use lib.IntN.{ℤ, pos, negsuc, nat_abs}
 use lib.Dec.{T}
-use lib.Signed.{lt_z, non_neg, mag}
+use lib.Signed.{lt_z, non_neg}
 use lib.ListN.{length, take, drop, length-take, length-drop}
 use mir.Syntax.{Width, w32, w64}
-use mir.Val.{SFits, Fits, to_z, of_z, hbits}
+use mir.Val.{SFits, Fits, to_z, of_z}
 use mir.ValLaws.{to_z-of_z}
-use Rattle.libc.specs.Io.{Moved}
+use Rattle.std.specs.Prelude.{Result, Ok, Err, IfOk}
+use Rattle.std.specs.Io.{ReadsAtMost}
 use Rattle.files.specs.Within.{Within}
-use Rattle.files.specs.Calls.{interrupted, failure, next_of}
+use Rattle.files.specs.Calls.{answer_of, interrupted, failure, next_of}
 use Rattle.files.specs.declared.calls.Got.{Got}
 use Rattle.files.specs.declared.calls.Got.TheVariants.{Bytes, Nothing}
 use Rattle.files.specs.declared.calls.Next.TheVariants.{On, Again, Stop}
@@ -59,26 +60,40 @@ no_more zero h = refl
 no_more (suc left) h = absurd (omega arith)
 
 -- bytes that went through: at least one, and no more than there was room for
-some : (most n : ℕ) (got error : ℤ) (left done : ℕ) → Moved most got → On n ≡ next_of got error left done → (0 < n) × (n ≤ most)
+some :
+    {E : Type 0} (most n : ℕ) (called : Result ℕ E) (error : ℤ) (left done : ℕ) → IfOk called (λ k. k ≤ most) →
+    On n ≡ next_of (answer_of called) error left done → (0 < n) × (n ≤ most)
 unfolding next_of
-some most n (pos zero) error left done m e = let z : ◌≡◌ {A = ℕ} 0 1 = cc in absurd (omega arith)
-some most n (pos (suc k)) error left done m e = let h : n ≡ suc k = cc in (omega arith, omega arith)
-some most n (negsuc k) error left done m e = absurd (not_on (interrupted error) left e)
+some most n (Ok zero) error left done m e = let z : ◌≡◌ {A = ℕ} 0 1 = cc in absurd (omega arith)
+some most n (Ok (suc k)) error left done m e = let h : n ≡ suc k = cc in (omega arith, omega arith)
+some most n (Err x) error left done m e = absurd (not_on (interrupted error) left e)
   where
     not_on : (b : Bool) (left : ℕ) → On n ≡ failure b left → ⊥
     not_on true zero e = let z : ◌≡◌ {A = ℕ} 0 1 = cc in omega arith
     not_on true (suc l) e = let z : ◌≡◌ {A = ℕ} 0 1 = cc in omega arith
     not_on false l e = let z : ◌≡◌ {A = ℕ} 0 1 = cc in omega arith
 
+-- a call's answer, read back from its bits
+read_back : {E : Type 0} (most : ℕ) (called : Result ℕ E) → most < 2 ^ 63 → IfOk called (λ k. k ≤ most) → to_z w64 (of_z w64 (answer_of called)) ≡ answer_of called
+read_back most (Ok n) room m = to_z-of_z w64 (pos n) (record { sfits = omega arith })
+read_back most (Err x) room m = refl
+
 -- The same of a call on the bytes from done on, as the loops have it: the call's answer is read back from its bits.
 pub nearer :
-    (bytes : List ℕ) (done n : ℕ) (got error : ℤ) (left : ℕ) → done < length bytes → mag got < 2 ^ hbits w64 →
-    Moved (length (take (length bytes - done) (drop done bytes))) got → On n ≡ next_of (to_z w64 (of_z w64 got)) error left done →
-    (0 < n) × (done + n ≤ length bytes)
-nearer bytes done n got error left room f m e =
-    let h = some (length (take (length bytes - done) (drop done bytes))) n got error left done m (rw (to_z-of_z w64 got (record { sfits = f })) at e) in
+    {E : Type 0} (bytes : List ℕ) (done n : ℕ) (called : Result ℕ E) (got error : ℤ) (left : ℕ) → done < length bytes → length bytes < 2 ^ 63 →
+    IfOk called (λ k. k ≤ length (take (length bytes - done) (drop done bytes))) → got ≡ answer_of called →
+    On n ≡ next_of (to_z w64 (of_z w64 got)) error left done → (0 < n) × (done + n ≤ length bytes)
+nearer bytes done n called got error left room small m a e =
     let l : length (take (length bytes - done) (drop done bytes)) ≡ length bytes - done = simp (length-take, length-drop) (omega arith) in
+    let r = read_back (length (take (length bytes - done) (drop done bytes))) called (omega arith) m in
+    let h = some (length (take (length bytes - done) (drop done bytes))) n called error left done m (rw (a, r) at e) in
     (omega arith, omega arith)
+
+-- what a read promises of the part that it was lent: no more bytes came than the part has
+pub came_within :
+    {E : Type 0} (called : Result ℕ E) (xs ys : List ℕ) → length xs ≡ length ys → ReadsAtMost called xs → IfOk called (λ k. k ≤ length ys)
+came_within (Ok n) xs ys l m = let h = m.0 in omega arith
+came_within (Err x) xs ys l m = tt
 
 -- a call is made again only where one more interruption is borne
 pub borne : (got error : ℤ) (left done : ℕ) → Again ≡ next_of got error left done → 0 < left

@@ -10,16 +10,21 @@ ghost use Rattle.files.specs.Within.{Within};
 
 pub use calls::Got;
 use calls::Next;
+use std::fs::File;
+use std::io::{Read, Write};
+use std::rt::Files;
+use std::str;
 
 // Reads until the buffer is full or the input ends. Where a read fails nothing counts as read, also not the bytes that came before.
-pub fn fill(fd: i32, buffer: &mut [u8]) -> Got
+#[tactic(auto, using(crate::proofs::Following::borne, crate::proofs::Following::stopped))]
+pub fn fill<R: Read>(from: &mut R, buffer: &mut [u8]) -> Got
     ensures { Within (length buffer.new) result }
 {
     let mut done = 0;
     let mut left = calls::BORNE;
     while done < buffer.len() {
-        let got = libc::read(fd, &mut buffer[done..]);
-        match calls::after(got, os::errno(), left, done) {
+        let (got, error) = calls::answered(from.read(&mut buffer[done..]));
+        match calls::after(got, error, left, done) {
             Next::On(n) => {
                 done += n;
                 left = calls::BORNE;
@@ -32,27 +37,31 @@ pub fn fill(fd: i32, buffer: &mut [u8]) -> Got
 }
 
 // Reads as much of a file as the buffer holds. One that cannot be opened and one that cannot be read are alike: a folder can be opened.
-pub fn load(name: &[u8], buffer: &mut [u8]) -> Got
+pub fn load<F: Files>(files: &F, name: &[u8], buffer: &mut [u8]) -> Got
     ensures { Within (length buffer.new) result }
 {
-    let fd = os::open_read(name);
-    if fd < 0 {
+    let Some(mut file) = open(files, name) else {
         return Got::Nothing;
-    }
-    let got = fill(fd, buffer);
-    libc::close(fd);
-    got
+    };
+    fill(&mut file, buffer)
+}
+
+// A file, opened for reading. Its name has to be text, as std's names are.
+fn open<F: Files>(files: &F, name: &[u8]) -> Option<F::File> {
+    let name = str::from_utf8(name).ok()?;
+    File::open(files, name).ok()
 }
 
 // Writes all bytes, or as many as can be written, and returns how many these were.
-pub fn put(fd: i32, bytes: &[u8]) -> usize
+#[tactic(auto, using(crate::proofs::Following::borne))]
+pub fn put<W: Write>(to: &mut W, bytes: &[u8]) -> usize
     ensures { result ≤ length bytes.now }
 {
     let mut done = 0;
     let mut left = calls::BORNE;
     while done < bytes.len() {
-        let got = libc::write(fd, &bytes[done..]);
-        match calls::after(got, os::errno(), left, done) {
+        let (got, error) = calls::answered(to.write(&bytes[done..]));
+        match calls::after(got, error, left, done) {
             Next::On(n) => {
                 done += n;
                 left = calls::BORNE;

@@ -1,0 +1,10 @@
+-- The loop of `files::fill`: no more bytes went through than the buffer has, and at most 1,000 interrupted calls are still borne. The measure:
+-- each byte to come counts for as many interrupted calls, and one call more.
+use Rattle.std.proofs.Common.{length, ◌-◌, ◌≤◌, ◌+◌, ◌*◌}
+use Rattle.files.proofs.fill.Given as goal
+
+abbrev pub invariant-loop-done : goal.invariant-loop-done
+invariant-loop-done g l = (l.done ≤ length l.buffer) × (l.left ≤ 1000)
+
+abbrev pub decreases-loop-done : goal.decreases-loop-done
+decreases-loop-done g l = 1001 * (length l.initial.buffer - l.done) + l.left
