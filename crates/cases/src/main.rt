@@ -7,7 +7,15 @@ ghost use Rattle.std.specs.Prelude.{◌<◌, ◌≤◌, length, true, ◌≡◌}
 
 use demands::Answer;
 use files::Got;
-use libc::{STDERR_FILENO, STDOUT_FILENO};
+use std::fs::File;
+use std::io::Stdout;
+
+// Standard output, and whether all that was printed there is written whole.
+#[derive(Drop)]
+struct Output {
+    to: Stdout,
+    whole: bool,
+}
 
 // A byte as a number.
 fn wide(b: u8) -> usize
@@ -17,36 +25,36 @@ fn wide(b: u8) -> usize
 }
 
 // Prints a text. The flag is cleared where that is not written whole, and main then says so.
-fn print(whole: &mut bool, text: &[u8]) {
-    if files::put(STDOUT_FILENO, text) < text.len() {
-        *whole = false;
+fn print(out: &mut Output, text: &[u8]) {
+    if files::put(&mut out.to, text) < text.len() {
+        out.whole = false;
     }
 }
 
 // Prints a byte as two hex digits.
-fn print_hex(whole: &mut bool, byte: u8) {
+fn print_hex(out: &mut Output, byte: u8) {
     let mut text = [0u8; 16];
     let count = io::hex(wide(byte) as u64, 2, &mut text);
-    print(whole, &text[..count]);
+    print(out, &text[..count]);
 }
 
 // Tells a buffer in which a byte changed that should have stayed.
-fn changed(whole: &mut bool, name: &[u8]) {
-    print(whole, b" changed ");
-    print(whole, name);
+fn changed(out: &mut Output, name: &[u8]) {
+    print(out, b" changed ");
+    print(out, name);
 }
 
 // Prints the bytes of as many records as a count asks for, in hex; then tells the buffer's name if a byte behind them is no longer the pattern.
 // A byte's record is found by a division, so that no product needs a bound.
-fn bytes_of(whole: &mut bool, name: &[u8], bytes: &[u8], count: usize, each: usize, pattern: u8)
+fn bytes_of(out: &mut Output, name: &[u8], bytes: &[u8], count: usize, each: usize, pattern: u8)
     requires { 0 < each }
 {
     let mut i = 0;
     while i < bytes.len() {
         if i / each < count {
-            print_hex(whole, bytes[i]);
+            print_hex(out, bytes[i]);
         } else if bytes[i] != pattern {
-            changed(whole, name);
+            changed(out, name);
             return;
         }
         i += 1;
@@ -54,31 +62,31 @@ fn bytes_of(whole: &mut bool, name: &[u8], bytes: &[u8], count: usize, each: usi
 }
 
 // A buffer that the answer fills: a dash stands for no records.
-fn written(whole: &mut bool, name: &[u8], bytes: &[u8], count: usize, each: usize, pattern: u8)
+fn written(out: &mut Output, name: &[u8], bytes: &[u8], count: usize, each: usize, pattern: u8)
     requires { 0 < each }
 {
     if count == 0 {
-        print(whole, b"-");
+        print(out, b"-");
     }
-    bytes_of(whole, name, bytes, count, each, pattern);
+    bytes_of(out, name, bytes, count, each, pattern);
 }
 
 // A buffer that should have stayed.
-fn kept(whole: &mut bool, name: &[u8], bytes: &[u8], pattern: u8) {
-    bytes_of(whole, name, bytes, 0, 1, pattern);
+fn kept(out: &mut Output, name: &[u8], bytes: &[u8], pattern: u8) {
+    bytes_of(out, name, bytes, 0, 1, pattern);
 }
 
 // Prints a number behind a text.
-fn number(whole: &mut bool, text: &[u8], n: usize) {
-    print(whole, text);
+fn number(out: &mut Output, text: &[u8], n: usize) {
+    print(out, text);
     let mut digits = [0u8; 20];
     let count = io::decimal(n as u64, &mut digits);
-    print(whole, &digits[..count]);
+    print(out, &digits[..count]);
 }
 
 // Prints the answer and what was written.
 fn show(
-    whole: &mut bool,
+    out: &mut Output,
     answer: Answer,
     terms: usize,
     partition: &[u8],
@@ -87,37 +95,37 @@ fn show(
 ) {
     match answer {
         Answer::Consistent => {
-            print(whole, b" consistent partition=");
-            written(whole, b"partition", partition, terms, 2, 170);
-            kept(whole, b"added", added, 187);
-            kept(whole, b"clauses", clauses, 204);
+            print(out, b" consistent partition=");
+            written(out, b"partition", partition, terms, 2, 170);
+            kept(out, b"added", added, 187);
+            kept(out, b"clauses", clauses, 204);
         }
         Answer::Inconsistent {
             disequality,
             added: count,
             records,
         } => {
-            number(whole, b" inconsistent by ", disequality);
-            print(whole, b" added=");
-            written(whole, b"added", added, count, 16, 187);
-            print(whole, b" clauses=");
-            written(whole, b"clauses", clauses, records, 8, 204);
-            kept(whole, b"partition", partition, 170);
+            number(out, b" inconsistent by ", disequality);
+            print(out, b" added=");
+            written(out, b"added", added, count, 16, 187);
+            print(out, b" clauses=");
+            written(out, b"clauses", clauses, records, 8, 204);
+            kept(out, b"partition", partition, 170);
         }
         Answer::Refused { number: row, place } => {
-            number(whole, b" refused ", row);
-            number(whole, b" at ", place);
-            kept(whole, b"partition", partition, 170);
-            kept(whole, b"added", added, 187);
-            kept(whole, b"clauses", clauses, 204);
+            number(out, b" refused ", row);
+            number(out, b" at ", place);
+            kept(out, b"partition", partition, 170);
+            kept(out, b"added", added, 187);
+            kept(out, b"clauses", clauses, 204);
         }
     }
-    print(whole, b"\n");
+    print(out, b"\n");
 }
 
 // The call, and what came back.
 fn call(
-    whole: &mut bool,
+    out: &mut Output,
     terms: &[u8],
     literals: &[u8],
     partition: &mut [u8],
@@ -125,11 +133,11 @@ fn call(
     clauses: &mut [u8],
 ) {
     let answer = engine::split(terms, literals, partition, added, clauses);
-    show(whole, answer, terms.len() / 16, partition, added, clauses);
+    show(out, answer, terms.len() / 16, partition, added, clauses);
 }
 
 // One call, with as much of each buffer as the case lends.
-fn lend(whole: &mut bool, terms: &[u8], literals: &[u8], p: usize, a: usize, c: usize) {
+fn lend(out: &mut Output, terms: &[u8], literals: &[u8], p: usize, a: usize, c: usize) {
     let mut partition = [170u8; 512];
     let mut added = [187u8; 4080];
     let mut clauses = [204u8; 49152];
@@ -137,7 +145,7 @@ fn lend(whole: &mut bool, terms: &[u8], literals: &[u8], p: usize, a: usize, c: 
         if a <= 4080 {
             if c <= 49152 {
                 call(
-                    whole,
+                    out,
                     terms,
                     literals,
                     &mut partition[0..p],
@@ -150,13 +158,13 @@ fn lend(whole: &mut bool, terms: &[u8], literals: &[u8], p: usize, a: usize, c: 
 }
 
 // Whether a table's bytes, as many as its case says, fit it and could be read.
-fn load(fd: i32, table: &mut [u8], count: usize) -> bool
+fn load(file: &mut File, table: &mut [u8], count: usize) -> bool
     ensures { result ≡ true → count ≤ length table.new }
 {
     if table.len() < count {
         return false;
     }
-    let Got::Bytes(n) = files::fill(fd, &mut table[0..count]) else {
+    let Got::Bytes(n) = files::fill(file, &mut table[0..count]) else {
         return false;
     };
     n == count
@@ -179,9 +187,9 @@ enum Data {
 }
 
 // One case: its tables are read behind its head, and the call is run.
-fn run_case(whole: &mut bool, fd: i32) -> Data {
+fn run_case(out: &mut Output, file: &mut File) -> Data {
     let mut head = [0u8; 32];
-    let Got::Bytes(count) = files::fill(fd, &mut head) else {
+    let Got::Bytes(count) = files::fill(file, &mut head) else {
         return Data::Unread;
     };
     if count == 0 {
@@ -191,12 +199,12 @@ fn run_case(whole: &mut bool, fd: i32) -> Data {
     let m = field(&head, 24);
     let mut terms = [0u8; 4112];
     let mut literals = [0u8; 8200];
-    if count < 32 || !load(fd, &mut terms, n) || !load(fd, &mut literals, m) {
+    if count < 32 || !load(file, &mut terms, n) || !load(file, &mut literals, m) {
         return Data::Unread;
     }
-    print(whole, &head[..22]);
+    print(out, &head[..22]);
     lend(
-        whole,
+        out,
         &terms[..n],
         &literals[..m],
         field(&head, 26),
@@ -207,10 +215,10 @@ fn run_case(whole: &mut bool, fd: i32) -> Data {
 }
 
 // Case after case, and whether the data's end was reached. The count ends the loop in every run, also in one whose data never end.
-fn run_cases(whole: &mut bool, fd: i32) -> bool {
+fn run_cases(out: &mut Output, file: &mut File) -> bool {
     let mut left: usize = 65536;
     while 0 < left {
-        match run_case(whole, fd) {
+        match run_case(out, file) {
             Data::Case => left -= 1,
             Data::End => return true,
             Data::Unread => return false,
@@ -219,17 +227,25 @@ fn run_cases(whole: &mut bool, fd: i32) -> bool {
     false
 }
 
-fn main() {
-    let mut whole = true;
-    let fd = os::open_read(b"cases.tab");
-    if fd < 0 {
-        print(&mut whole, b"no file cases.tab\n");
-    } else if run_cases(&mut whole, fd) {
-        print(&mut whole, b"end\n");
-    } else {
-        print(&mut whole, b"cases.tab was not read to its end\n");
+fn main(rt: HostRuntime) {
+    let mut out = Output {
+        to: rt.stdout(),
+        whole: true,
+    };
+    match File::open(&rt, "cases.tab") {
+        Err(_) => print(&mut out, b"no file cases.tab\n"),
+        Ok(mut file) => {
+            if run_cases(&mut out, &mut file) {
+                print(&mut out, b"end\n");
+            } else {
+                print(&mut out, b"cases.tab was not read to its end\n");
+            }
+        }
     }
-    if !whole {
-        files::put(STDERR_FILENO, b"cases: the output was not written whole\n");
+    if !out.whole {
+        files::put(
+            &mut rt.stderr(),
+            b"cases: the output was not written whole\n",
+        );
     }
 }

@@ -3,20 +3,19 @@
 #![tactic(auto)]
 
 use files::Got;
-use libc::{STDERR_FILENO, STDOUT_FILENO};
 
-// A program has no exit status here, so standard error says where the output is not whole.
-fn print(text: &[u8]) {
-    if files::put(STDOUT_FILENO, text) < text.len() {
+// The program's exit status is 0 in any case, so standard error says where the output is not whole.
+fn print(rt: &HostRuntime, text: &[u8]) {
+    if files::put(&mut rt.stdout(), text) < text.len() {
         files::put(
-            STDERR_FILENO,
+            &mut rt.stderr(),
             b"eqsplit: the output was not written whole\n",
         );
     }
 }
 
 // The engine's answer on two tables, printed. The text has room for the longest answer that the lent buffers hold.
-fn judge(terms: &[u8], literals: &[u8]) {
+fn judge(rt: &HostRuntime, terms: &[u8], literals: &[u8]) {
     let mut partition = [0u8; 512];
     let mut added = [0u8; 4080];
     let mut clauses = [0u8; 32768];
@@ -30,19 +29,19 @@ fn judge(terms: &[u8], literals: &[u8]) {
         &clauses,
         &mut text,
     );
-    print(&text[..length]);
+    print(rt, &text[..length]);
 }
 
-fn main() {
+fn main(rt: HostRuntime) {
     let mut terms = [0u8; 4112];
     let mut literals = [0u8; 8200];
-    let Got::Bytes(n) = files::load(b"terms.tab", &mut terms) else {
-        print(b"no file terms.tab\n");
+    let Got::Bytes(n) = files::load(&rt, b"terms.tab", &mut terms) else {
+        print(&rt, b"no file terms.tab\n");
         return;
     };
-    let Got::Bytes(m) = files::load(b"literals.tab", &mut literals) else {
-        print(b"no file literals.tab\n");
+    let Got::Bytes(m) = files::load(&rt, b"literals.tab", &mut literals) else {
+        print(&rt, b"no file literals.tab\n");
         return;
     };
-    judge(&terms[..n], &literals[..m]);
+    judge(&rt, &terms[..n], &literals[..m]);
 }
