@@ -37,27 +37,29 @@ need_command() {
 folders_of() {
     [ -d "crates/$1" ] || return 0
     echo "crates/$1"
-    for name in $(sed -n "s/#.*//; s/^ *$1 *://p" crates.txt); do
+    for name in $(sed -n "s/#.*//; s/^ *$1\( [^:]*\)*://p" crates.txt); do
         folders_of "$name"
     done
 }
 
-# What the archive is made from, by checksum: the kit, crates.txt and every file of the crates.
+# What the archive is made from, by checksum: the kit, crates.txt and every file of the crates but what rt keeps in out/.
 archive_sources() {
     rt version
-    find crates.txt $(folders_of engine | sort -u) -type f -exec cksum {} + | sort
+    find crates.txt $(folders_of engine_c | sort -u) -name out -prune -o -type f -exec cksum {} + | sort
 }
 
 # Builds the archive, unless it stands as it was built from these sources, which the file beside it tells. The log is shown only where that fails.
+# rt names it after the crate of the export, and C links it by the engine's name.
 build_archive() {
-    mkdir -p target
+    mkdir -p target/staticlib
     archive_sources >target/staticlib.sources
     if [ -f "$ARCHIVE" ] && { cat target/staticlib.sources && cksum <"$ARCHIVE"; } | cmp -s - "$ARCHIVE.made"; then
         say "the engine's archive was built from these sources, and is taken as it stands"
         return
     fi
     say "proving the engine and building its archive, a minute or more .."
-    rt staticlib engine >target/staticlib.log 2>&1 || { cat target/staticlib.log >&2; fail "the archive was not built"; }
+    (cd crates/engine_c && rt lib) >target/staticlib.log 2>&1 || { cat target/staticlib.log >&2; fail "the archive was not built"; }
+    cp crates/engine_c/out/libengine_c.a "$ARCHIVE"
     { cat target/staticlib.sources && cksum <"$ARCHIVE"; } >"$ARCHIVE.made"
 }
 
