@@ -1,22 +1,9 @@
 -- `want_edges` meets its contract: the edges passed that have the colour are marked.
 use mathlib.Core.Path.{sym, subst}
-use native.Mathlib.Omega.{arith}
 use Rattle.marking.proofs.Trails.{flags_agree, flags_not}
-use Rattle.marking.proofs.Wanting.{EdgesUpTo, edges_none, edges_mark, edges_skip, edges_all}
+use Rattle.marking.proofs.Wanting.{EdgesUpTo, edges_mark, edges_skip, edges_all}
 use Rattle.marking.proofs.marks.want_edges.Goals as goal
 use Rattle.marking.proofs.marks.want_edges.Goals.{then-inb-e, else-inb-e}
-
-pub loop-i-init : goal.loop-i-init
-loop-i-init c = edges_none _ _ _ _ _ _ _ c.requires.within.forward c.requires.marks_len
-
-pub overflow_cast-e : goal.overflow_cast-e
-overflow_cast-e c = omega (arith, c.requires.within.edges_low c.loop-i.i c.loop-i-test.true)
-
-pub bounds-inb-e : goal.bounds-inb-e
-bounds-inb-e c = c.requires.within.edges_low c.loop-i.i c.loop-i-test.true
-
-pub bounds-marks-e : goal.bounds-marks-e
-bounds-marks-e c = c.requires.within.edges_low c.loop-i.i c.loop-i-test.true
 
 pub loop-i-preserved : goal.loop-i-preserved
 loop-i-preserved c = let low = c.requires.within.edges_low c.loop-i.i c.loop-i-test.true in

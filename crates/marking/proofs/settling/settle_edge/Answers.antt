@@ -1,42 +1,11 @@
 -- `settle_edge` meets its contract: the paths at the places passed are read.
 use native.Mathlib.Omega.{arith}
-use borrow.Author.Rules.{rules}
 use Rattle.graphs.specs.Trails.{trail}
-use Rattle.marking.proofs.Owing.{edge_none, edge_more, edge_all, bounds, path_asked, path_rows, path_given}
+use Rattle.marking.proofs.Owing.{edge_more, edge_all, bounds, path_asked, path_rows, path_given}
 use Rattle.marking.proofs.settling.settle_edge.Goals as goal
-
-pub bounds-places-i : goal.bounds-places-i
-bounds-places-i c = omega (arith, (bounds _ _ c.requires.i_lt_count _ c.requires.drawn_some))
-
-pub overflow_cast-arity : goal.overflow_cast-arity
-overflow_cast-arity c = omega (arith, (bounds _ _ c.requires.i_lt_count _ c.requires.drawn_some))
-
-pub loop-j-init : goal.loop-j-init
-loop-j-init c = (omega arith, edge_none _ _ _ _ _ _ _ _ c.requires.in_order, search rules)
-
-pub overflow_mul-u : goal.overflow_mul-u
-overflow_mul-u c = omega (arith, (bounds _ _ c.requires.i_lt_count _ c.requires.drawn_some))
-
-pub overflow_add-u : goal.overflow_add-u
-overflow_add-u c = omega (arith, (bounds _ _ c.requires.i_lt_count _ c.requires.drawn_some))
-
-pub offset_bounds-parents-i : goal.offset_bounds-parents-i
-offset_bounds-parents-i c = omega (arith, (bounds _ _ c.requires.i_lt_count _ c.requires.drawn_some))
 
 pub bounds-parents-i : goal.bounds-parents-i
 bounds-parents-i c = omega (arith, (bounds _ _ c.requires.i_lt_count _ c.requires.drawn_some))
-
-pub overflow_mul-v : goal.overflow_mul-v
-overflow_mul-v c = omega (arith, (bounds _ _ c.requires.i_lt_count _ c.requires.drawn_some))
-
-pub overflow_add-v : goal.overflow_add-v
-overflow_add-v c = omega (arith, (bounds _ _ c.requires.i_lt_count _ c.requires.drawn_some))
-
-pub overflow_add-v-in-loop-j : goal.overflow_add-v-in-loop-j
-overflow_add-v-in-loop-j c = omega (arith, (bounds _ _ c.requires.i_lt_count _ c.requires.drawn_some))
-
-pub offset_bounds-parents-i-in-loop-j : goal.offset_bounds-parents-i-in-loop-j
-offset_bounds-parents-i-in-loop-j c = omega (arith, (bounds _ _ c.requires.i_lt_count _ c.requires.drawn_some))
 
 pub bounds-parents-i-in-loop-j : goal.bounds-parents-i-in-loop-j
 bounds-parents-i-in-loop-j c = omega (arith, (bounds _ _ c.requires.i_lt_count _ c.requires.drawn_some))
@@ -55,12 +24,6 @@ want_along-requires c =
     let g = path_given _ _ c.requires.i_lt_count l.j c.loop-j-test.true (trail p.new.stops p.new.edges p.result) p.ensures.1 d.0 d.1 d.2 d.3 d.4 in
     record { within = g.within; rows_of = (path_rows _ _ _ _ _ d.4 _ (omega (arith, x.same, d.5)) g, x.in_order) }
 
-pub overflow_add-j : goal.overflow_add-j
-overflow_add-j c = omega (arith, (bounds _ _ c.requires.i_lt_count _ c.requires.drawn_some), c.loop-j-test.true)
-
-pub loop-j-smaller : goal.loop-j-smaller
-loop-j-smaller c = omega (arith, c.loop-j-test.true)
-
 pub loop-j-preserved : goal.loop-j-preserved
 loop-j-preserved c =
     let l = c.loop-j in
@@ -70,9 +33,6 @@ loop-j-preserved c =
     let ways = p.new.edges in
     let more = edge_more _ _ _ _ c.requires.i_lt_count _ _ _ _ l.j _ _ _ _ _ _ _ _ stops ways p.result t (λ ts ls table G d. (path_given _ _ c.requires.i_lt_count l.j t (trail stops ways p.result) p.ensures.1 ts ls table G d).trailed) l.invariant.1 c.want_along.ensures in
     (omega (arith, t), more, p.ensures.0)
-
-pub shape_of-pairs : goal.shape_of-pairs
-shape_of-pairs c = c.loop-j.invariant.1.same
 
 pub returns : goal.returns
 returns c = let x = c.loop-j.invariant in

@@ -36,12 +36,6 @@ outer_premises-n-requires c = let p = c.requires in
     let g = path_here b.0 b.1 t.result t.ensures s.0 s.1 s.2 s.3 s.4 in
     record { drawn_some = (s.0, s.1, s.2, s.3, s.4.drawn, omega (arith, s.4.terms, p.blank.rows)); within = (g.within, le_refl _, le_refl _, b.2, b.3); rows_of = (path_rows _ _ _ _ _ s.4.drawn _ (omega (arith, s.4.terms, p.blank.rows)) g, p.blank) }
 
-pub put-requires : goal.put-requires
-put-requires c = omega (arith, c.outer_premises-n.ensures.few, c.requires.u_lt_v.3)
-
-pub overflow_add-result : goal.overflow_add-result
-overflow_add-result c = omega (arith, c.outer_premises-n.ensures.few, c.requires.u_lt_v.3)
-
 pub returns : goal.returns
 returns c = let p = c.requires in
     let t = c.path-t in

@@ -16,14 +16,6 @@ records_out-n-requires c = let p = c.requires in
 pub returns-then-out-n : goal.returns-then-out-n
 returns-then-out-n c colours s t w = summary_counted _ _ _ _ _ c.requires.vertices_bound.0 _ _ _ _ _ _ w _ _ _ _ _ c.records_out-n.ensures _ c.if-out-n.true
 
-pub overflow_mul-n : goal.overflow_mul-n
-overflow_mul-n c = omega (arith, c.if-n-le256.true)
-
-pub copy-requires : goal.copy-requires
-copy-requires c = let a = c.args in
-    let sized = reading_sized a.ina _ _ _ a.stops.now a.edges.now a.lo a.hi a.hops _ _ _ _ _ c.records_out-n.ensures in
-    (omega (arith, c.if-n-le256.true, sized.1, length-replicate {A = ℕ} 2048 0), omega (arith, c.if-out-n.false))
-
 pub returns-then-n-le256 : goal.returns-then-n-le256
 returns-then-n-le256 c colours s t w = summary_copied _ _ _ _ _ c.requires.vertices_bound.0 _ _ _ _ _ _ w _ _ _ _ _ c.records_out-n.ensures _ _ c.if-out-n.false (omega (arith, c.if-n-le256.true, length-replicate {A = ℕ} 2048 0)) c.copy.ensures
 
