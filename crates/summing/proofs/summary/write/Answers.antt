@@ -5,15 +5,15 @@ use Rattle.summing.proofs.summary.write.Goals as goal
 
 pub write_in-requires-clause-blank : goal.write_in-requires-clause-blank
 write_in-requires-clause-blank c =
-    let blank = new_blank c.args.vertices 8176 (omega (arith, c.if-vertices-le16.true)) in
+    let blank = new_blank c.args.vertices 8176 (omega arith) in
     (blank, blank)
 
 pub write_in-requires-then-vertices-le128-clause-blank : goal.write_in-requires-then-vertices-le128-clause-blank
 write_in-requires-then-vertices-le128-clause-blank c =
-    let blank = new_blank c.args.vertices 65408 (omega (arith, c.if-vertices-le128.true)) in
+    let blank = new_blank c.args.vertices 65408 (omega arith) in
     (blank, blank)
 
 pub write_in-requires-2-clause-blank : goal.write_in-requires-2-clause-blank
 write_in-requires-2-clause-blank c =
-    let blank = new_blank c.args.vertices 261121 (omega (arith, c.requires.1)) in
+    let blank = new_blank c.args.vertices 261121 (omega arith) in
     (blank, blank)
