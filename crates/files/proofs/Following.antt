@@ -74,9 +74,13 @@ some most n (Err x) error left done m e = absurd (not_on (interrupted error) lef
     not_on false l e = let z : ◌≡◌ {A = ℕ} 0 1 = cc in omega arith
 
 -- a call's answer, read back from its bits
-read_back : {E : Type 0} (most : ℕ) (called : Result ℕ E) → most < 2 ^ 63 → IfOk called (λ k. k ≤ most) → to_z w64 (of_z w64 (answer_of called)) ≡ answer_of called
+pub read_back : {E : Type 0} (most : ℕ) (called : Result ℕ E) → most < 2 ^ 63 → IfOk called (λ k. k ≤ most) → to_z w64 (of_z w64 (answer_of called)) ≡ answer_of called
 read_back most (Ok n) room m = to_z-of_z w64 (pos n) (record { sfits = omega arith })
 read_back most (Err x) room m = refl
+
+-- how many bytes there are from done on
+pub part_length : (bytes : List ℕ) (done : ℕ) → length (take (length bytes - done) (drop done bytes)) ≡ length bytes - done
+part_length bytes done = simp (length-take, length-drop) (omega arith)
 
 -- The same of a call on the bytes from done on, as the loops have it: the call's answer is read back from its bits.
 pub nearer :
@@ -84,7 +88,7 @@ pub nearer :
     IfOk called (λ k. k ≤ length (take (length bytes - done) (drop done bytes))) → got ≡ answer_of called →
     On n ≡ next_of (to_z w64 (of_z w64 got)) error left done → (0 < n) × (done + n ≤ length bytes)
 nearer bytes done n called got error left room small m a e =
-    let l : length (take (length bytes - done) (drop done bytes)) ≡ length bytes - done = simp (length-take, length-drop) (omega arith) in
+    let l = part_length bytes done in
     let r = read_back (length (take (length bytes - done) (drop done bytes))) called (omega arith) m in
     let h = some (length (take (length bytes - done) (drop done bytes))) n called error left done m (rw (a, r) at e) in
     (omega arith, omega arith)

@@ -5,7 +5,9 @@
 
 mod calls;
 
-ghost use Rattle.std.specs.Prelude.{◌≤◌, length};
+ghost use Rattle.std.specs.Prelude.{◌≤◌, length, take};
+ghost use Rattle.std.specs.Io.KnownBytes.{Appends};
+ghost use Rattle.files.specs.Moved.{CameFrom};
 ghost use Rattle.files.specs.Within.{Within};
 
 pub use calls::Got;
@@ -18,7 +20,8 @@ use std::str;
 // Reads until the buffer is full or the input ends. Where a read fails nothing counts as read, also not the bytes that came before.
 #[tactic(auto, using(crate::proofs::Following::borne, crate::proofs::Following::stopped))]
 pub fn fill<R: Read>(from: &mut R, buffer: &mut [u8]) -> Got
-    ensures { Within (length buffer.new) result }
+    ensures within { Within (length buffer.new) result }
+    ensures bytes { CameFrom (R.remaining from.old) (R.remaining from.new) result buffer.new }
 {
     let mut done = 0;
     let mut left = calls::BORNE;
@@ -55,7 +58,8 @@ fn open<F: Files>(files: &F, name: &[u8]) -> Option<F::File> {
 // Writes all bytes, or as many as can be written, and returns how many these were.
 #[tactic(auto, using(crate::proofs::Following::borne))]
 pub fn put<W: Write>(to: &mut W, bytes: &[u8]) -> usize
-    ensures { result ≤ length bytes.now }
+    ensures within { result ≤ length bytes.now }
+    ensures written { Appends (W.contents to.old) (W.contents to.new) (take result bytes.now) }
 {
     let mut done = 0;
     let mut left = calls::BORNE;
