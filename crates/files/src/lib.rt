@@ -76,3 +76,109 @@ pub fn put<W: Write>(to: &mut W, bytes: &[u8]) -> usize
     }
     done
 }
+
+#[cfg(test)]
+mod tests {
+    use super::{Got, fill, put};
+    use std::io;
+    use std::io::{ErrorKind, Read, Write};
+
+    // A stream that moves one byte at a time, as many as there are, and each only after so many interrupted calls; then it ends, or fails.
+    #[derive(Drop)]
+    struct Fake {
+        bytes: usize,
+        interruptions: usize,
+        waits: usize,
+        fails: bool,
+    }
+
+    impl Fake {
+        fn new(bytes: usize, interruptions: usize, fails: bool) -> Fake {
+            Fake {
+                bytes,
+                interruptions,
+                waits: interruptions,
+                fails,
+            }
+        }
+
+        fn moves(&mut self) -> io::Result<bool> {
+            if self.waits > 0 {
+                self.waits -= 1;
+                return Err(io::Error::from(ErrorKind::Interrupted));
+            }
+            if self.bytes > 0 {
+                self.bytes -= 1;
+                self.waits = self.interruptions;
+                return Ok(true);
+            }
+            if self.fails {
+                return Err(io::Error::from_raw_os_error(5));
+            }
+            Ok(false)
+        }
+    }
+
+    impl Read for Fake {
+        fn read(&mut self, buf: &mut [u8]) -> io::Result<usize> {
+            if buf.is_empty() || !self.moves()? {
+                return Ok(0);
+            }
+            buf[0] = 7;
+            Ok(1)
+        }
+    }
+
+    impl Write for Fake {
+        fn write(&mut self, buf: &[u8]) -> io::Result<usize> {
+            if buf.is_empty() || !self.moves()? {
+                return Ok(0);
+            }
+            Ok(1)
+        }
+
+        fn flush(&mut self) -> io::Result<()> {
+            Ok(())
+        }
+    }
+
+    #[test]
+    fn reads_until_the_end(rt: HostRuntime) {
+        let runs = [
+            (3, 0, false, Some(3)),
+            (9, 0, true, Some(8)),
+            (3, 0, true, None),
+            (3, 1000, false, Some(3)),
+            (3, 1001, false, None),
+        ];
+        for (bytes, interruptions, fails, want) in runs {
+            let mut buffer = [0u8; 8];
+            let came = match fill(&mut Fake::new(bytes, interruptions, fails), &mut buffer) {
+                Got::Bytes(n) => Some(n),
+                Got::Nothing => None,
+            };
+            assert!(rt;
+                came == want,
+                "{bytes} bytes, {interruptions} interruptions"
+            );
+        }
+    }
+
+    #[test]
+    fn writes_what_it_can(rt: HostRuntime) {
+        let runs = [
+            (9, 0, false, 8),
+            (3, 0, false, 3),
+            (3, 0, true, 3),
+            (9, 1000, false, 8),
+            (9, 1001, false, 0),
+        ];
+        for (bytes, interruptions, fails, want) in runs {
+            let count = put(&mut Fake::new(bytes, interruptions, fails), &[7u8; 8]);
+            assert!(rt;
+                count == want,
+                "{bytes} bytes, {interruptions} interruptions"
+            );
+        }
+    }
+}
