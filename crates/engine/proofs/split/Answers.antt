@@ -1,19 +1,16 @@
 -- `engine::split` meets its contract: a row of the checks refuses, or the run and what follows it say the rest.
-use mathlib.Core.List.{List, [], ◌∷◌}
-use mathlib.Core.Logic.{⊎_elim}
-use mathlib.Core.Path.{◌≡◌, refl, sym, ap, subst, ◌∙◌}
-use Prim.Native.Nat.{ℕ, ◌<◌}
+use mathlib.Core.List.{List}
+use mathlib.Core.Path.{◌≡◌, refl, sym, ap, ◌∙◌}
+use Prim.Native.Nat.{ℕ}
 use native.Mathlib.Omega.{arith}
 use Rattle.tables.specs.Bytes.{AllBytes}
 use Rattle.tables.specs.Checks.{checked, found_of}
 use Rattle.tables.specs.Read.{tables_read}
-use Rattle.tables.specs.declared.Check.{Check}
 use Rattle.tables.specs.declared.Check.TheVariants.{Sound}
 use Rattle.tables.specs.declared.Tables.{Tables}
 use Rattle.tables.proofs.WordBytes.{small_bytes}
 use Rattle.tables.proofs.Sound.{read_check}
 use Rattle.running.specs.Opening.{ReadFrom}
-use Rattle.running.specs.Stepping.{Ends}
 use Rattle.running.proofs.Beginning.{terms_fit}
 use Rattle.running.proofs.BasicSteps.{sides_small}
 use Rattle.demands.specs.declared.Answer.{Answer}
@@ -21,9 +18,7 @@ use Rattle.demands.specs.Answers.{numbers_of}
 use Rattle.demands.specs.Buffers.{Buffers, Returned}
 use Rattle.demands.specs.Call.{judged, Called}
 use Rattle.demands.proofs.Ways.{judged_refused, judged_ended}
-use Rattle.engine.specs.Ending.{Decides, terms_in, literals_in}
 use Rattle.engine.proofs.EndOfRun.{ends_of_is, ended_stuck, found_critical, ended_inconsistent, ended_consistent}
-use borrow.Author.Rules.{rules}
 use Rattle.std.proofs.Common.{Fits, w8, get_or}
 use Rattle.engine.proofs.split.Goals as goal
 

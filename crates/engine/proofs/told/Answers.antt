@@ -1,6 +1,5 @@
 -- `engine::told` meets its contract: the answer is the variant that its arm tells.
 use mathlib.Core.Path.{ap, sym}
-use borrow.Author.Rules.{rules}
 use Rattle.demands.specs.Answers.{numbers_of}
 use Rattle.engine.proofs.told.Goals as goal
 

@@ -3,7 +3,6 @@ use mathlib.Core.List.{List, [], ◌∷◌}
 use Prim.Native.Nat.{ℕ}
 use lib.ListN.{get_or}
 use Rattle.engine.specs.Ending.{record_bytes}
-use borrow.Author.Rules.{rules}
 use Rattle.engine.proofs.added.term_record.Goals as goal
 
 -- `engine::added::term_record` meets its contract: its words are those of the fields.

@@ -1,11 +1,9 @@
 -- `engine::added::write_added` meets its contract. The invariant: the records of the terms passed are written. The measure is what is left of them.
-use mathlib.Core.Path.{◌≡◌, refl, sym, ap, ◌∙◌}
-use Prim.Native.Nat.{◌-◌, ◌≤◌}
+use mathlib.Core.Path.{refl, sym, ap, ◌∙◌}
 use native.Mathlib.Omega.{arith}
 use lib.ListN.{length}
-use Rattle.engine.specs.Ending.{record_bytes, record_in}
-use Rattle.engine.proofs.Writing.{Written, written_none, written_more, written_all}
-use borrow.Author.Rules.{rules}
+use Rattle.engine.specs.Ending.{record_bytes}
+use Rattle.engine.proofs.Writing.{written_none, written_more, written_all}
 use Rattle.engine.proofs.added.write_added.Goals as goal
 
 pub loop-i-init : goal.loop-i-init

@@ -1,6 +1,5 @@
 -- `engine::answers::consistent` meets its contract.
 use Rattle.engine.proofs.Answering.{consistent_short, consistent_room}
-use borrow.Author.Rules.{rules}
 use Rattle.engine.proofs.answers.consistent.Goals as goal
 
 pub returns-then-partition-n : goal.returns-then-partition-n

@@ -2,7 +2,6 @@
 use native.Mathlib.Omega.{arith}
 use Rattle.engine.proofs.AddedRecords.{all_terms, all_fit}
 use Rattle.engine.proofs.Answering.{added_short, clauses_short, both_room}
-use borrow.Author.Rules.{rules}
 use Rattle.engine.proofs.answers.inconsistent.Goals as goal
 
 pub overflow_sub-count : goal.overflow_sub-count

@@ -1,12 +1,8 @@
 -- `engine::bytes::put` meets its contract. The invariant: the first bytes are copied in from the place. The measure is what is left of them.
-use mathlib.Core.List.{List}
-use mathlib.Core.Path.{◌≡◌, refl, sym, ap, ◌∙◌}
-use Prim.Native.Nat.{ℕ, ◌+◌, ◌-◌, ◌≤◌}
-use native.Mathlib.Numerals.{add-one}
-use native.Mathlib.Omega.{arith}
-use lib.ListN.{length, set, length-set}
-use lib.Seq.{paste, paste-zero, paste-suc}
-use Rattle.engine.proofs.Writing.{paste_all}
+use mathlib.Core.Path.{◌≡◌}
+use Prim.Native.Nat.{◌-◌, ◌≤◌}
+use lib.ListN.{length}
+use lib.Seq.{paste}
 use Rattle.engine.proofs.bytes.put.Given as goal
 
 abbrev pub invariant-loop-j : goal.invariant-loop-j

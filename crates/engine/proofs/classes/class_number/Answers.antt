@@ -1,10 +1,8 @@
 -- `engine::classes::class_number` meets its contract. The invariant: no term passed is of the class. The measure is what is left of them.
 use mathlib.Core.Option.{some, none}
 use mathlib.Core.Path.{refl}
-use Prim.Native.Nat.{◌-◌}
-use native.Mathlib.Omega.{arith}
-use Rattle.tables.proofs.Records.{NotYet, not_yet, first_found, not_more, not_found}
-use Rattle.engine.proofs.Searches.{alike, class_idle_by, class_used_by}
+use Rattle.tables.proofs.Records.{not_yet, first_found, not_more, not_found}
+use Rattle.engine.proofs.Searches.{class_idle_by, class_used_by}
 use Rattle.engine.proofs.classes.class_number.Goals as goal
 
 pub returns-then-not-used-t : goal.returns-then-not-used-t

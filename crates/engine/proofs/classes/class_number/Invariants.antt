@@ -1,11 +1,7 @@
 -- `engine::classes::class_number` meets its contract. The invariant: no term passed is of the class. The measure is what is left of them.
-use mathlib.Core.Option.{some, none}
-use mathlib.Core.Path.{refl}
 use Prim.Native.Nat.{◌-◌}
-use native.Mathlib.Omega.{arith}
-use borrow.Author.Tests.{not-true, not-false}
-use Rattle.tables.proofs.Records.{NotYet, not_yet, first_found, not_more, not_found}
-use Rattle.engine.proofs.Searches.{alike, class_idle_by, class_used_by}
+use Rattle.tables.proofs.Records.{NotYet}
+use Rattle.engine.proofs.Searches.{alike}
 use Rattle.engine.proofs.classes.class_number.Given as goal
 
 abbrev pub invariant-loop-u : goal.invariant-loop-u

@@ -1,14 +1,10 @@
 -- `engine::classes::write_partition` meets its contract. The invariant: the class numbers of the terms passed are written. The measure is what is left of them.
-use mathlib.Core.Bool.{Bool}
-use mathlib.Core.List.{List}
-use mathlib.Core.Path.{◌≡◌, refl, sym, ap, ◌∙◌}
-use Prim.Native.Nat.{ℕ, ◌-◌, ◌≤◌}
-use native.Mathlib.Omega.{arith}
+use mathlib.Core.Path.{◌≡◌}
+use Prim.Native.Nat.{◌-◌, ◌≤◌}
 use lib.ListN.{length}
 use Rattle.tables.specs.Bytes.{word_bytes}
 use Rattle.engine.specs.Ending.{class_by}
-use Rattle.engine.proofs.Writing.{Written, written_none, written_more, written_all}
-use borrow.Author.Rules.{rules}
+use Rattle.engine.proofs.Writing.{Written}
 use Rattle.engine.proofs.classes.write_partition.Given as goal
 
 abbrev pub invariant-loop-i : goal.invariant-loop-i

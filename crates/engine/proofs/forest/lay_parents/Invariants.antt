@@ -1,16 +1,8 @@
 -- `engine::forest::lay_parents` meets its contract. The invariant: the fields passed stand in their places. The measure is what is left of them.
-use mathlib.Core.Bool.{Bool, cond}
-use mathlib.Core.Path.{◌≡◌, refl, ap}
-use Prim.Native.Nat.{ℕ, ◌-◌, ◌*◌, ◌/◌, ◌%◌, ◌≤◌, ◌<◌}
-use native.Mathlib.Nat.{not-suc-le-zero}
-use native.Mathlib.Omega.{arith}
-use lib.Dec.{ltb}
-use lib.ListN.{get_or}
-use Rattle.running.specs.Keys.{no_row}
-use Rattle.marking.proofs.Filling.{Filled, filled_more}
+use mathlib.Core.Path.{◌≡◌}
+use Prim.Native.Nat.{◌-◌, ◌*◌, ◌≤◌}
+use Rattle.marking.proofs.Filling.{Filled}
 use Rattle.engine.specs.Ending.{parent_at}
-use Rattle.engine.proofs.ParentEnds.{either_low}
-use borrow.Author.Rules.{rules}
 use Rattle.engine.proofs.forest.lay_parents.Given as goal
 
 abbrev pub invariant-loop-k : goal.invariant-loop-k

@@ -1,10 +1,6 @@
 -- `engine::forest::places` meets its contract. The invariant: the counts of the edges passed stand under their numbers. The measure is what is left of them.
-use mathlib.Core.Bool.{false, cond}
-use Prim.Native.Nat.{◌-◌, ◌≤◌}
 use native.Mathlib.Omega.{arith}
-use lib.ListN.{get_or}
-use Rattle.marking.proofs.Filling.{Filled, filled_none, filled_more}
-use borrow.Author.Rules.{rules}
+use Rattle.marking.proofs.Filling.{filled_none, filled_more}
 use Rattle.engine.proofs.forest.places.Goals as goal
 
 pub loop-i-init : goal.loop-i-init

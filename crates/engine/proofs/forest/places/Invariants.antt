@@ -1,10 +1,8 @@
 -- `engine::forest::places` meets its contract. The invariant: the counts of the edges passed stand under their numbers. The measure is what is left of them.
 use mathlib.Core.Bool.{false, cond}
 use Prim.Native.Nat.{◌-◌, ◌≤◌}
-use native.Mathlib.Omega.{arith}
 use lib.ListN.{get_or}
-use Rattle.marking.proofs.Filling.{Filled, filled_none, filled_more}
-use borrow.Author.Rules.{rules}
+use Rattle.marking.proofs.Filling.{Filled}
 use Rattle.engine.proofs.forest.places.Given as goal
 
 abbrev pub invariant-loop-i : goal.invariant-loop-i

@@ -7,7 +7,6 @@ use Rattle.running.proofs.OnRuns.{can_root}
 use Rattle.engine.specs.Ending.{terms_in, literals_in}
 use Rattle.engine.proofs.AddedRecords.{all_fit}
 use Rattle.engine.proofs.LastState.{on_run, ends_in, drawn_of, decided_within, asking_of, written_of}
-use borrow.Author.Rules.{rules}
 use Rattle.engine.proofs.summaries.clause_records.Goals as goal
 
 pub rooted-root-requires : goal.rooted-root-requires

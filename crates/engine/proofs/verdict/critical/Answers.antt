@@ -1,10 +1,10 @@
 -- `engine::verdict::critical` meets its contract. The invariant: no record passed is a disequality with joined sides. The measure is what is left of them.
 use mathlib.Core.Path.{ap}
-use Prim.Native.Nat.{◌-◌, ◌<◌}
+use Prim.Native.Nat.{◌<◌}
 use native.Mathlib.Omega.{arith}
-use Rattle.tables.proofs.Records.{NotYet, not_yet, first_found, not_more, not_found}
+use Rattle.tables.proofs.Records.{not_yet, first_found, not_more, not_found}
 use Rattle.reading.specs.declared.literal.Fields.{Fields}
-use Rattle.engine.specs.Ending.{meets, met_by}
+use Rattle.engine.specs.Ending.{meets}
 use Rattle.std.proofs.Common.{ℕ, List, ◌≡◌, ◌<◌}
 use Rattle.tables.specs.LiteralTable.{literal_count, literal_record}
 use Rattle.reading.specs.Fields.{fields_of}

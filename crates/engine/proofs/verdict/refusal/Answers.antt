@@ -4,7 +4,6 @@ use Rattle.tables.specs.Checks.{number_of, place_in}
 use Rattle.tables.specs.declared.Check.{Check}
 use Rattle.demands.specs.declared.Answer.{Answer}
 use Rattle.demands.specs.declared.Answer.TheVariants.{Refused}
-use borrow.Author.Rules.{rules}
 use Rattle.engine.proofs.verdict.refusal.Goals as goal
 
 -- `engine::verdict::refusal` meets its contract. Each way returns the number and the place that the definitions name there.
