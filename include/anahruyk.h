@@ -1,4 +1,4 @@
-/* The engine's call, for C on x86-64 Linux: link with the archive that `rt lib` writes in crates/engine_c.
+/* The engine's call, for C on x86-64 Linux: link with the archive that `tools/archive` writes.
  *
  * docs/FORMAT.md has the layout of the tables and of what is written, the refusals and the rules. Working storage is the library's own, less than
  * 1 MB of the caller's stack; it keeps no state between calls, so several threads may call it at one time, each with buffers of its own.

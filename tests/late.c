@@ -4,8 +4,8 @@
  *
  * builds the archive and this program, and runs it. On x86-64 that is
  *
- *   (cd crates/engine_c && rt lib)
- *   cc -Iinclude tests/late.c crates/engine_c/out/libengine_c.a -o late && ./late
+ *   tools/archive
+ *   cc -Iinclude tests/late.c target/staticlib/libengine.a -o late && ./late
  *
  * Prints a line for each call that answers as it should, after the first also the summary in the words of eqsplit, made from the bytes that came
  * back. Ends with status 1 at the first call that does not answer so.
