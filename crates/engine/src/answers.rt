@@ -4,7 +4,7 @@ ghost use Rattle.std.specs.Prelude.{List, map, ◌≡◌, ℕ, ◌≤◌};
 ghost use Rattle.running.specs.declared.state.State.{State as Arrays};
 ghost use Rattle.demands.specs.Answers.{numbers_of};
 ghost use Rattle.demands.specs.Buffers.{term_bytes};
-ghost use Rattle.demands.specs.Call.{consistent as consistentBy, inconsistent as inconsistent_by};
+ghost use Rattle.demands.specs.Call.{consistent as consistent_by, inconsistent as inconsistent_by};
 ghost use Rattle.engine.specs.Ending.{Decides, lent_of, records_for, class_bytes};
 
 use super::{added, classes, summaries};
@@ -16,7 +16,7 @@ use tables::Tables;
 // No disequality has its sides joined: the partition, where it has room.
 pub fn consistent(used: &[bool; 256], labels: &[u16; 511], n: usize, partition: &mut [u8]) -> Answer
     requires { n ≤ 256 }
-    ensures { (added clauses : List ℕ) → record { numbers = numbers_of result; buffers = record { partition = partition.exit.now; added = added; clauses = clauses } } ≡ consistentBy (record { partition = partition.entry.now; added = added; clauses = clauses }) (class_bytes used.now labels.now n) }
+    ensures { (added clauses : List ℕ) → record { numbers = numbers_of result; buffers = record { partition = partition.new; added = added; clauses = clauses } } ≡ consistent_by (record { partition = partition.old; added = added; clauses = clauses }) (class_bytes used.now labels.now n) }
 {
     if partition.len() < 2 * n {
         return Answer::Refused {
