@@ -207,7 +207,7 @@ walk_chain {G} {u} {v} {π} w = walk_chain_from G v π u w
 
 -- each factor of a chain is a walk
 pub chain_walk : {G : Graph} {u v : ℕ} {fs : List Factor} {f : Factor} → Chain G u v fs → Memᴰ f fs → Walk G f.from f.to f.hops
-chain_walk {G = G} {f = f} (done {u = u} {v = v} _) x6 = elim x6 [ ]
+chain_walk (done q) absent = elim absent [ ]
 chain_walk {G} (link q w c) (Memᴰ.head e) = subst (λ (x : Factor). Walk G x.from x.to x.hops) (sym e) w
 chain_walk (link q w c) (Memᴰ.tail m) = chain_walk c m
 

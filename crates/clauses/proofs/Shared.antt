@@ -90,7 +90,7 @@ module _ (ts : List Term) (ls : List Literal) (table : List Term) where
 
     -- so all factors have the colour of both ends of the chain at their ends
     chain_coloured : {u : ℕ} {fs : List Factor} → Chain G u v fs → Alternate fs → ((g : Factor) → Memᴰ g fs → BothColoured g.colour g.from g.to) → Coloured X u → Coloured X v → (f : Factor) → Memᴰ f fs → BothColoured X f.from f.to
-    chain_coloured (done {u = u} _) alt own start end f x24 = elim x24 [ ]
+    chain_coloured (done {u = u} _) alt own start end f absent = elim absent [ ]
     chain_coloured (link {f = g} {fs = fs} q w c) alt own start end f (Memᴰ.head e) =
         subst (λ (x : Factor). BothColoured X x.from x.to) (sym e) (subst (Coloured X) q start, boundary g fs c alt own end)
     chain_coloured (link {f = g} {fs = fs} q w c) alt own start end f (Memᴰ.tail m) =

@@ -51,8 +51,8 @@ middle_from ts ls st s t =
     (first_shared ts ls table st.graph (term_at table s).arguments (term_at table t).arguments)
 
 -- the derived step between s and t: "A derived edge is B where both ends are B-colourable, else A"; where it is neither, a middle term is needed
-unfoldable pub derived_step : List Term → List Literal → State → Pair → Option State
-derived_step ts ls st p =
+unfoldable pub derived_on : List Term → List Literal → State → Pair → Option State
+derived_on ts ls st p =
     let s = p.left in
     let t = p.right in
     let table = table_of ts st in
@@ -73,4 +73,4 @@ turns_at find step (suc k) st =
 
 -- the run's last state, or nothing where row 8 refuses
 unfoldable pub own_run : List Term → List Literal → Option State
-own_run ts ls = turns_at (first_pair ts ls) (derived_step ts ls) (length ts) (basic_steps ls begin)
+own_run ts ls = turns_at (first_pair ts ls) (derived_on ts ls) (length ts) (basic_steps ls begin)

@@ -96,7 +96,7 @@ pub data Step (ts : List Term) (ls : List Literal) (st : State) : State → Type
   basic_step : (l : Literal) (s t : ℕ) → Memᴰ l ls → l.kind ≡ equal → HasSides l s t →
       T (not (joined st.graph s t)) → Step ts ls st (with_edge st s t l.side basic)
   -- "derived": between any vertices; the colour is one that both ends have, so a free choice where both are shared
-  derived_step_is : (s t : ℕ) (colour : Side) → T (vertex ts ls st s) → T (vertex ts ls st t) →
+  derived_step : (s t : ℕ) (colour : Side) → T (vertex ts ls st s) → T (vertex ts ls st t) →
       T (not (joined st.graph s t)) → T (congruent (table_of ts st) st.graph s t) →
       T (edge_colourable ts ls colour (table_of ts st) s t) → Step ts ls st (with_edge st s t colour derived)
   -- "If a derived edge is not colourable, one end, s, is A-colourable only and t is B-colourable only."

@@ -41,25 +41,25 @@ at_below (suc n) t d h = go (below_or_is t n h) (λ w. at_below n t d w)
 
 module _ (ts : List Term) (ls : List Literal) (G : Graph) where
   -- a term of the class of t: in use, and joined to t
-  abbrev pub in_class : ℕ → ℕ → Bool
-  in_class t u = is_in_use ts ls u && joined G u t
+  abbrev pub of_class : ℕ → ℕ → Bool
+  of_class t u = is_in_use ts ls u && joined G u t
 
   -- "a term not in use gets 65535"
   pub class_idle : (t : ℕ) → T (not (is_in_use ts ls t)) → class_number ts ls G t ≡ 65535
   unfolding class_number
   class_idle t h = rw (failed (is_in_use ts ls t) h)
 
-  class_used : (t : ℕ) → T (is_in_use ts ls t) → class_number ts ls G t ≡ Option.get_or (first_below (in_class t) (length ts)) 65535
+  class_used : (t : ℕ) → T (is_in_use ts ls t) → class_number ts ls G t ≡ Option.get_or (first_below (of_class t) (length ts)) 65535
   unfolding class_number
   class_used t h = rw (passed (is_in_use ts ls t) h)
 
   -- "the lowest number of a given term in its class"
-  pub class_lowest : (t : ℕ) → t < length ts → T (is_in_use ts ls t) → First (λ u. T (in_class t u)) (length ts) (class_number ts ls G t)
-  class_lowest t w h = go (first_below (in_class t) (length ts)) refl
+  pub class_lowest : (t : ℕ) → t < length ts → T (is_in_use ts ls t) → First (λ u. T (of_class t u)) (length ts) (class_number ts ls G t)
+  class_lowest t w h = go (first_below (of_class t) (length ts)) refl
     where
-      go : (o : Option ℕ) → first_below (in_class t) (length ts) ≡ o → First (λ u. T (in_class t u)) (length ts) (class_number ts ls G t)
-      go (some k) e = subst (First (λ u. T (in_class t u)) (length ts)) (sym (class_used t h ∙ ap (λ (o : Option ℕ). Option.get_or o 65535) e)) (first_below_some (in_class t) (length ts) k e)
-      go none e = absurd (first_below_none (in_class t) (length ts) e t w (and_both (is_in_use ts ls t) (joined G t t) h (joined_self G t)))
+      go : (o : Option ℕ) → first_below (of_class t) (length ts) ≡ o → First (λ u. T (of_class t u)) (length ts) (class_number ts ls G t)
+      go (some k) e = subst (First (λ u. T (of_class t u)) (length ts)) (sym (class_used t h ∙ ap (λ (o : Option ℕ). Option.get_or o 65535) e)) (first_below_some (of_class t) (length ts) k e)
+      go none e = absurd (first_below_none (of_class t) (length ts) e t w (and_both (is_in_use ts ls t) (joined G t t) h (joined_self G t)))
 
   -- two terms in use have one class number exactly when they are joined
   pub class_joined : (u v : ℕ) → u < length ts → v < length ts → T (is_in_use ts ls u) → T (is_in_use ts ls v) → (class_number ts ls G u ≡ class_number ts ls G v) ↔ T (joined G u v)
@@ -71,25 +71,25 @@ module _ (ts : List Term) (ls : List Literal) (G : Graph) where
       apart : class_number ts ls G u ≡ class_number ts ls G v → T (joined G u v)
       apart e = joined_trans G u (class_number ts ls G u) v (joined_sym G (class_number ts ls G u) u (same_class u wu hu)) (subst (λ (k : ℕ). T (joined G k v)) (sym e) (same_class v wv hv))
 
-      moved : (x y k : ℕ) → T (joined G x y) → T (in_class x k) → T (in_class y k)
+      moved : (x y k : ℕ) → T (joined G x y) → T (of_class x k) → T (of_class y k)
       moved x y k j h = and_both (is_in_use ts ls k) (joined G k y) (and_left (is_in_use ts ls k) (joined G k x) h) (joined_trans G k x y (and_right (is_in_use ts ls k) (joined G k x) h) j)
 
       together : T (joined G u v) → class_number ts ls G u ≡ class_number ts ls G v
       together j =
           let a = class_lowest u wu hu in
           let b = class_lowest v wv hv in
-          first_one (λ k. T (in_class u k)) (length ts) (class_number ts ls G u) (class_number ts ls G v) a (record { within = b.within; such = moved v u (class_number ts ls G v) (joined_sym G u v j) b.such; none_before = λ k w h. b.none_before k w (moved u v k j h) })
+          first_one (λ k. T (of_class u k)) (length ts) (class_number ts ls G u) (class_number ts ls G v) a (record { within = b.within; such = moved v u (class_number ts ls G v) (joined_sym G u v j) b.such; none_before = λ k w h. b.none_before k w (moved u v k j h) })
 
   -- each class number fits its two bytes
   pub class_fits : (t : ℕ) → length ts ≤ 256 → class_number ts ls G t < 65536
   class_fits t few = by_test (is_in_use ts ls t) (λ e. used (passes (is_in_use ts ls t) e)) (λ e. subst (λ (k : ℕ). k < 65536) (sym (class_idle t (fails (is_in_use ts ls t) e))) (lit< tt))
     where
-      found : (o : Option ℕ) → first_below (in_class t) (length ts) ≡ o → Option.get_or o 65535 < 65536
-      found (some k) e = omega (arith, (first_below_some (in_class t) (length ts) k e).within)
+      found : (o : Option ℕ) → first_below (of_class t) (length ts) ≡ o → Option.get_or o 65535 < 65536
+      found (some k) e = omega (arith, (first_below_some (of_class t) (length ts) k e).within)
       found none e = lit< tt
 
       used : T (is_in_use ts ls t) → class_number ts ls G t < 65536
-      used h = subst (λ (k : ℕ). k < 65536) (sym (class_used t h)) (found (first_below (in_class t) (length ts)) refl)
+      used h = subst (λ (k : ℕ). k < 65536) (sym (class_used t h)) (found (first_below (of_class t) (length ts)) refl)
 
   -- two bytes for each given term
   pub partition_length : length (partition_bytes ts ls G) ≡ 2 * length ts

@@ -49,7 +49,7 @@ use Rattle.demands.specs.Call.{judged, Called}
 use Rattle.demands.specs.Demands.{Demand1, Classes, Demand2, Demand3, Demands}
 use Rattle.demands.proofs.AddedTerms.{added_bytes, added_bytes_length, table_read}
 use Rattle.demands.proofs.AddedFit.{added_fits}
-use Rattle.demands.proofs.Partition.{in_class, class_lowest, class_idle, class_joined, partition_read}
+use Rattle.demands.proofs.Partition.{of_class, class_lowest, class_idle, class_joined, partition_read}
 use Rattle.demands.proofs.Ways.{Way, refused_way, answered_way, way, refusal_given, clause_bytes_of}
 
 -- ---- what holds of tables whose arguments are lower and whose literals are over their terms, for every run
@@ -123,11 +123,11 @@ module _ (ts : List Term) (ls : List Literal) (lower : LowerArguments ts) (withi
     lowest : (t : ℕ) → T (is_in_use ts ls t) → LowestInClass ts ls p t
     lowest t h =
         let c = class_at p t in
-        let first = subst (First (λ u. T (in_class ts ls st.graph t u)) (length ts)) (sym (class t (used_in t h))) (class_lowest ts ls st.graph t (used_in t h) h) in
+        let first = subst (First (λ u. T (of_class ts ls st.graph t u)) (length ts)) (sym (class t (used_in t h))) (class_lowest ts ls st.graph t (used_in t h) h) in
         let used = and_left (is_in_use ts ls c) (joined st.graph c t) first.such in
         record {
           in_use = used;
-          in_class_is = (class_means c t used h).1 (and_right (is_in_use ts ls c) (joined st.graph c t) first.such);
+          in_class = (class_means c t used h).1 (and_right (is_in_use ts ls c) (joined st.graph c t) first.such);
           none_lower = λ u l hu e. first.none_before u l (and_both (is_in_use ts ls u) (joined st.graph u t) hu ((class_means u t hu h).0 e));
         }
 
@@ -275,7 +275,7 @@ module _ (terms literals : List ℕ) (bs : Buffers) where
 -- Every call keeps the three demands. The contracts of `split` and of `anahruyk_split` say `Called` of what they return and of the buffers that they
 -- are lent, for all inputs.
 pub promised : (terms literals : List ℕ) (bs : Buffers) (r : Returned) → Called terms literals bs r → Demands terms literals bs r
-promised terms literals bs r c = demanded terms literals bs c.term_bytes_is (subst (Way terms literals bs) (sym c.returned) (way terms literals bs)) c.returned
+promised terms literals bs r c = demanded terms literals bs c.terms_are_bytes (subst (Way terms literals bs) (sym c.returned) (way terms literals bs)) c.returned
 
 -- The demands settle all that comes back: the numbers, and every byte of the buffers. So a reader of them need not read `judged`.
 pub settled : (terms literals : List ℕ) (bs : Buffers) (r : Returned) → Demands terms literals bs r → r ≡ judged terms literals bs

@@ -49,5 +49,5 @@ class_at buffer t = word_at (record_at 2 buffer t) 0
 -- the class number of term t in a partition buffer is the lowest number of a given term in use of its class
 pub record LowestInClass (ts : List Term) (ls : List Literal) (buffer : List ℕ) (t : ℕ) : Type 0 where
   pub in_use : T (is_in_use ts ls (class_at buffer t))
-  pub in_class_is : class_at buffer (class_at buffer t) ≡ class_at buffer t
+  pub in_class : class_at buffer (class_at buffer t) ≡ class_at buffer t
   pub none_lower : (u : ℕ) → u < class_at buffer t → T (is_in_use ts ls u) → class_at buffer u ≡ class_at buffer t → ⊥

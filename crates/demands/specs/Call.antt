@@ -65,5 +65,5 @@ buffers_of partition added clauses = record { partition = partition; added = add
 -- what every contract of the call says: all that comes back is that of the definition. The tables are byte slices, so their entries are bytes.
 pub record Called (terms literals : List ℕ) (bs : Buffers) (r : Returned) : Type 0 where
   pub returned : r ≡ judged terms literals bs
-  pub term_bytes_is : AllBytes terms
-  pub literal_bytes : AllBytes literals
+  pub terms_are_bytes : AllBytes terms
+  pub literals_are_bytes : AllBytes literals

@@ -63,8 +63,8 @@ ends_in {s = s} w c laid =
     let ts = terms_in w.from in
     let ls = literals_in w.from in
     let edge : (i : ℕ) → i < s.graph.count → Numbered (PartsAt c.lefts c.rights c.inb c.derived) w.state.graph i = λ i l. numbered (PartsAt c.lefts c.rights c.inb c.derived) w.state.graph i (subst (Each (PartsAt c.lefts c.rights c.inb c.derived)) w.shows.edges laid) (omega (arith, l, w.shows.count)) in (
-      λ i l. let n = edge i l in subst (λ (k : ℕ). get_or c.lefts k 0 < 511) n.count (omega (arith, n.has.left_at_is, (hop_sound ts ls (table_of ts w.state) n.walked (on_run_sound (on_run w)).edges).from_within, w.shows.within)),
-      λ i l. let n = edge i l in subst (λ (k : ℕ). get_or c.rights k 0 < 511) n.count (omega (arith, n.has.right_at_is, (hop_sound ts ls (table_of ts w.state) n.walked (on_run_sound (on_run w)).edges).to_within, w.shows.within)),
+      λ i l. let n = edge i l in subst (λ (k : ℕ). get_or c.lefts k 0 < 511) n.count (omega (arith, n.has.left_at, (hop_sound ts ls (table_of ts w.state) n.walked (on_run_sound (on_run w)).edges).from_within, w.shows.within)),
+      λ i l. let n = edge i l in subst (λ (k : ℕ). get_or c.rights k 0 < 511) n.count (omega (arith, n.has.right_at, (hop_sound ts ls (table_of ts w.state) n.walked (on_run_sound (on_run w)).edges).to_within, w.shows.within)),
     )
 
 -- the arrays that are laid out of a state hold its graph

@@ -72,11 +72,11 @@ module _ (ts : List Term) (ls : List Literal) (st : State) (s : Arrays) (h : Sho
       edge_drawn : (G : Graph) (e : Edge) → length G < s.graph.count → e.left < length table → e.right < length table → PartsAt c.lefts c.rights c.inb c.derived G e → EdgeAt table c.inb places parents G e
       edge_drawn G e low left right at =
           let n = length (term_at table e.left).arguments in
-          let count : get_or places (length G) 0 ≡ parents_for e.kind n = counts (length G) low ∙ ap₂ (λ (b : Bool) (v : ℕ). cond b (get_or s.arities v 0) 0) at.kind_at at.left_at_is ∙ ap (λ (m : ℕ). cond (is_derived e.kind) m 0) (shown_arity ts ls st s h e.left left) ∙ places_by e.kind n in
+          let count : get_or places (length G) 0 ≡ parents_for e.kind n = counts (length G) low ∙ ap₂ (λ (b : Bool) (v : ℕ). cond b (get_or s.arities v 0) 0) at.kind_at at.left_at ∙ ap (λ (m : ℕ). cond (is_derived e.kind) m 0) (shown_arity ts ls st s h e.left left) ∙ places_by e.kind n in
           let few : get_or places (length G) 0 ≤ 4 = omega (arith, count, places_few e.kind n (small e.left left)) in
           record {
-            colour_at_is = at.colour_at_is;
-            places_at_is = count;
-            left_at_is = λ k l. let four : k < 4 = omega (arith, l, few) in ends (8 * length G + k) (omega (arith, low, four)) ∙ parent_left s.rows c.lefts c.rights (length G) k four ∙ ap (λ (v : ℕ). get_or (get_or s.rows v no_row).args k 0) at.left_at_is ∙ field_at e.left k left;
-            right_at_is = λ k l. let four : k < 4 = omega (arith, l, few) in ends (8 * length G + 4 + k) (omega (arith, low, four)) ∙ parent_right s.rows c.lefts c.rights (length G) k four ∙ ap (λ (v : ℕ). get_or (get_or s.rows v no_row).args k 0) at.right_at_is ∙ field_at e.right k right;
+            colour_at = at.colour_at;
+            places_at = count;
+            left_at = λ k l. let four : k < 4 = omega (arith, l, few) in ends (8 * length G + k) (omega (arith, low, four)) ∙ parent_left s.rows c.lefts c.rights (length G) k four ∙ ap (λ (v : ℕ). get_or (get_or s.rows v no_row).args k 0) at.left_at ∙ field_at e.left k left;
+            right_at = λ k l. let four : k < 4 = omega (arith, l, few) in ends (8 * length G + 4 + k) (omega (arith, low, four)) ∙ parent_right s.rows c.lefts c.rights (length G) k four ∙ ap (λ (v : ℕ). get_or (get_or s.rows v no_row).args k 0) at.right_at ∙ field_at e.right k right;
           }

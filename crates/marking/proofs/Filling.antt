@@ -78,8 +78,8 @@ module _ (es : List Edge) where
       by_each (PartsAt c.lefts c.rights c.inb c.derived) es n
       (λ k l. let m = last_first_length no_edge k es in
       record {
-        left_at_is = ap (λ (j : ℕ). get_or c.lefts j 0) m ∙ w.lefts.at k (omega arith);
-        right_at_is = ap (λ (j : ℕ). get_or c.rights j 0) m ∙ w.rights.at k (omega arith);
-        colour_at_is = ap (λ (j : ℕ). get_or c.inb j false) m ∙ w.inb.at k (omega arith);
+        left_at = ap (λ (j : ℕ). get_or c.lefts j 0) m ∙ w.lefts.at k (omega arith);
+        right_at = ap (λ (j : ℕ). get_or c.rights j 0) m ∙ w.rights.at k (omega arith);
+        colour_at = ap (λ (j : ℕ). get_or c.inb j false) m ∙ w.inb.at k (omega arith);
         kind_at = ap (λ (j : ℕ). get_or c.derived j false) m ∙ w.derived.at k (omega arith);
       })

@@ -54,7 +54,7 @@ numbered P (e ∷ G) i p h =
 pub hop_colour : (table : List Term) (inb : List Bool) (places parents : List ℕ) (G : Graph) → Each (EdgeAt table inb places parents) G → {h : Hop} → HopOf h G → get_or inb (length h.older) false ≡ is_b h.colour
 hop_colour table inb places parents G p {h} of =
     let r = hop_each (EdgeAt table inb places parents) of p in
-    ⊎_elim (λ q. r.1.colour_at_is ∙ ap (λ (g : Hop). is_b g.colour) (sym q)) (λ q. r.1.colour_at_is ∙ ap (λ (g : Hop). is_b g.colour) (sym q)) r.2
+    ⊎_elim (λ q. r.1.colour_at ∙ ap (λ (g : Hop). is_b g.colour) (sym q)) (λ q. r.1.colour_at ∙ ap (λ (g : Hop). is_b g.colour) (sym q)) r.2
 
 -- ---- a path of the closure layer as a trail
 
@@ -94,16 +94,16 @@ walk_stops G n m low {u} h (hop {h = g} {π = π} of q w) = go (walk_stops G n m
 -- ---- the arrays
 
 -- how many parent paths an edge has
-abbrev pub places_at : Drawing → ℕ → ℕ
-places_at arrays i = get_or arrays.places i 0
+abbrev pub paths_at : Drawing → ℕ → ℕ
+paths_at arrays i = get_or arrays.places i 0
 
 -- where the one of place k begins, at an argument of the edge's left end
-abbrev pub left_at : Drawing → ℕ → ℕ → ℕ
-left_at arrays i k = get_or arrays.parents (8 * i + k) 0
+abbrev pub left_end_at : Drawing → ℕ → ℕ → ℕ
+left_end_at arrays i k = get_or arrays.parents (8 * i + k) 0
 
 -- and ends, at an argument of its right end
-abbrev pub right_at : Drawing → ℕ → ℕ → ℕ
-right_at arrays i k = get_or arrays.parents (8 * i + 4 + k) 0
+abbrev pub right_end_at : Drawing → ℕ → ℕ → ℕ
+right_end_at arrays i k = get_or arrays.parents (8 * i + 4 + k) 0
 
 -- no more than arguments
 pub places_few : (k : EdgeKind) (n : ℕ) → n ≤ 4 → parents_for k n ≤ 4
@@ -148,24 +148,24 @@ module _ (arrays : Drawing) (ts : List Term) (ls : List Literal) (table : List T
     pub older : Graph
     pub walked : HopOf (forth edge older) G
     pub count_is : length older ≡ i
-    pub places_is : places_at arrays i ≡ parents_for edge.kind (length (term_at table edge.left).arguments)
-    pub left_is : (k : ℕ) → k < places_at arrays i → left_at arrays i k ≡ get_or (term_at table edge.left).arguments k 0
-    pub right_is : (k : ℕ) → k < places_at arrays i → right_at arrays i k ≡ get_or (term_at table edge.right).arguments k 0
+    pub places_is : paths_at arrays i ≡ parents_for edge.kind (length (term_at table edge.left).arguments)
+    pub left_is : (k : ℕ) → k < paths_at arrays i → left_end_at arrays i k ≡ get_or (term_at table edge.left).arguments k 0
+    pub right_is : (k : ℕ) → k < paths_at arrays i → right_end_at arrays i k ≡ get_or (term_at table edge.right).arguments k 0
 
   -- each number below the count has one
   pub edge_read : (i : ℕ) → i < arrays.count → EdgeRead i
   edge_read i h =
       let n = numbered (EdgeAt table arrays.inb arrays.places arrays.parents) G i d.edges (omega (arith, d.counted)) in
       let e = n.edge in
-      let at = subst (λ (x : ℕ). (places_at arrays x ≡ parents_for e.kind (length (term_at table e.left).arguments)) × ((k : ℕ) → k < places_at arrays x → left_at arrays x k ≡ get_or (term_at table e.left).arguments k 0) × ((k : ℕ) → k < places_at arrays x → right_at arrays x k ≡ get_or (term_at table e.right).arguments k 0)) n.count (n.has.places_at_is, n.has.left_at_is, n.has.right_at_is) in
+      let at = subst (λ (x : ℕ). (paths_at arrays x ≡ parents_for e.kind (length (term_at table e.left).arguments)) × ((k : ℕ) → k < paths_at arrays x → left_end_at arrays x k ≡ get_or (term_at table e.left).arguments k 0) × ((k : ℕ) → k < paths_at arrays x → right_end_at arrays x k ≡ get_or (term_at table e.right).arguments k 0)) n.count (n.has.places_at, n.has.left_at, n.has.right_at) in
       record { edge = e; older = n.older; walked = n.walked; count_is = n.count; places_is = at.0; left_is = at.1; right_is = at.2 }
 
   -- what the ends of the parent path at place k of an edge are
   pub record Paired (i k : ℕ) (h : Hop) : Type 0 where
-    pub left_low : left_at arrays i k < length table
-    pub right_low : right_at arrays i k < length table
-    pub join : T (joined G (left_at arrays i k) (right_at arrays i k))
-    pub is_parent : Memᴰ (path G (left_at arrays i k) (right_at arrays i k)) (parent_paths table h)
+    pub left_low : left_end_at arrays i k < length table
+    pub right_low : right_end_at arrays i k < length table
+    pub join : T (joined G (left_end_at arrays i k) (right_end_at arrays i k))
+    pub is_parent : Memᴰ (path G (left_end_at arrays i k) (right_end_at arrays i k)) (parent_paths table h)
 
   -- a derived edge's arguments are joined pair by pair, and the paths between them are its parent paths
   module _ (i : ℕ) (h : i < arrays.count) where
@@ -194,19 +194,19 @@ module _ (arrays : Drawing) (ts : List Term) (ls : List Literal) (table : List T
     joined_here is = joined_place ts ls table hop_i hop_is is edge_i.left edge_i.right refl refl
 
     -- and so are the ends of the parent path there
-    joined_ends : (k : ℕ) → k < places_at arrays i → (is : edge_i.kind ≡ Derived) → k < length xs → T (joined hop_i.older (left_at arrays i k) (right_at arrays i k))
+    joined_ends : (k : ℕ) → k < paths_at arrays i → (is : edge_i.kind ≡ Derived) → k < length xs → T (joined hop_i.older (left_end_at arrays i k) (right_end_at arrays i k))
     joined_ends k l is within =
         let r = edge_read i h in
-        subst (λ (y : ℕ). T (joined hop_i.older (left_at arrays i k) y)) (sym (r.right_is k l)) (subst (λ (y : ℕ). T (joined hop_i.older y (get_or ys k 0))) (sym (r.left_is k l)) (joined_here is k within).1)
+        subst (λ (y : ℕ). T (joined hop_i.older (left_end_at arrays i k) y)) (sym (r.right_is k l)) (subst (λ (y : ℕ). T (joined hop_i.older y (get_or ys k 0))) (sym (r.left_is k l)) (joined_here is k within).1)
 
     -- the path between them is the one between the arguments
-    same_path : (k : ℕ) (l : k < places_at arrays i) (is : edge_i.kind ≡ Derived) (within : k < length xs) → path hop_i.older (get_or xs k 0) (get_or ys k 0) ≡ path G (left_at arrays i k) (right_at arrays i k)
+    same_path : (k : ℕ) (l : k < paths_at arrays i) (is : edge_i.kind ≡ Derived) (within : k < length xs) → path hop_i.older (get_or xs k 0) (get_or ys k 0) ≡ path G (left_end_at arrays i k) (right_end_at arrays i k)
     same_path k l is within =
         let r = edge_read i h in
-        ap₂ (path hop_i.older) (sym (r.left_is k l)) (sym (r.right_is k l)) ∙ path_older (left_at arrays i k) (right_at arrays i k) r.walked (joined_ends k l is within)
+        ap₂ (path hop_i.older) (sym (r.left_is k l)) (sym (r.right_is k l)) ∙ path_older (left_end_at arrays i k) (right_end_at arrays i k) r.walked (joined_ends k l is within)
 
     -- at each place
-    pub paired : (k : ℕ) → k < places_at arrays i → Paired i k hop_i
+    pub paired : (k : ℕ) → k < paths_at arrays i → Paired i k hop_i
     paired k l =
         let r = edge_read i h in
         let has = has_derived edge_i.kind (length xs) k (omega (arith, l, r.places_is)) in
@@ -216,29 +216,29 @@ module _ (arrays : Drawing) (ts : List Term) (ls : List Literal) (table : List T
         record {
           left_low = omega (arith, in_left, r.left_is k l, hop_is.from_within);
           right_low = omega (arith, in_right, r.right_is k l, hop_is.to_within);
-          join = older_joined (left_at arrays i k) (right_at arrays i k) r.walked (joined_ends k l has.0 has.1);
+          join = older_joined (left_end_at arrays i k) (right_end_at arrays i k) r.walked (joined_ends k l has.0 has.1);
           is_parent = subst (λ (π : Path). Memᴰ π (parent_paths table hop_i)) (same_path k l has.0 has.1) (place_parent ts ls table hop_i hop_is has.0 edge_i.left edge_i.right refl refl k has.1);
         }
 
     -- and there is no other parent path
-    pub parent_paired : {π : Path} → Memᴰ π (parent_paths table hop_i) → (k : ℕ) × (k < places_at arrays i) × (π ≡ path G (left_at arrays i k) (right_at arrays i k))
+    pub parent_paired : {π : Path} → Memᴰ π (parent_paths table hop_i) → (k : ℕ) × (k < paths_at arrays i) × (π ≡ path G (left_end_at arrays i k) (right_end_at arrays i k))
     parent_paired {π} m = go edge_i.kind refl
       where
-        go : (k : EdgeKind) → edge_i.kind ≡ k → (k : ℕ) × (k < places_at arrays i) × (π ≡ path G (left_at arrays i k) (right_at arrays i k))
+        go : (k : EdgeKind) → edge_i.kind ≡ k → (k : ℕ) × (k < paths_at arrays i) × (π ≡ path G (left_end_at arrays i k) (right_end_at arrays i k))
         go Basic is = absurd (basic_parents table hop_i is m)
         go Derived is =
             let q = parent_place ts ls table hop_i hop_is is edge_i.left edge_i.right refl refl m in
-            let l : q.0 < places_at arrays i = omega (arith, q.1, (edge_read i h).places_is ∙ ap (λ (k : EdgeKind). parents_for k (length xs)) is) in
+            let l : q.0 < paths_at arrays i = omega (arith, q.1, (edge_read i h).places_is ∙ ap (λ (k : EdgeKind). parents_for k (length xs)) is) in
             (q.0, l, q.2 ∙ same_path q.0 l is q.1)
 
     -- what the parent paths of the edge reach is what the paths at its places reach
-    pub paired_reached : (b mode : Bool) (p : Pair) → EdgeReached table G b p mode i ↔ ((k : ℕ) × (k < places_at arrays i) × Reached table b p mode (path G (left_at arrays i k) (right_at arrays i k)))
+    pub paired_reached : (b mode : Bool) (p : Pair) → EdgeReached table G b p mode i ↔ ((k : ℕ) × (k < paths_at arrays i) × Reached table b p mode (path G (left_end_at arrays i k) (right_end_at arrays i k)))
     paired_reached b mode p =
         let r = edge_read i h in
-        (λ x. let t = edge_parents ts ls table G d.sound b p mode hop_i r.walked (subst (EdgeReached table G b p mode) (sym r.count_is) x) in let q = parent_paired t.1 in (q.0, q.1, subst (Reached table b p mode) q.2 t.2), λ x. (hop_i, r.walked, r.count_is, (path G (left_at arrays i x.0) (right_at arrays i x.0), (paired x.0 x.1).is_parent, x.2)))
+        (λ x. let t = edge_parents ts ls table G d.sound b p mode hop_i r.walked (subst (EdgeReached table G b p mode) (sym r.count_is) x) in let q = parent_paired t.1 in (q.0, q.1, subst (Reached table b p mode) q.2 t.2), λ x. (hop_i, r.walked, r.count_is, (path G (left_end_at arrays i x.0) (right_end_at arrays i x.0), (paired x.0 x.1).is_parent, x.2)))
 
     -- a parent path has edges of lower numbers
-    pub paired_lower : (k : ℕ) → k < places_at arrays i → (g : Hop) → Memᴰ g (path G (left_at arrays i k) (right_at arrays i k)) → length g.older < i
+    pub paired_lower : (k : ℕ) → k < paths_at arrays i → (g : Hop) → Memᴰ g (path G (left_end_at arrays i k) (right_end_at arrays i k)) → length g.older < i
     paired_lower k l g m = omega (arith, older_fewer (parent_hop table hop_i (paired k l).is_parent m), (edge_read i h).count_is)
 
 -- ---- the turns over the arguments of one edge
@@ -253,7 +253,7 @@ module _ (arrays : Drawing) (i : ℕ) (b mode : Bool) where
     pub same : length pairs ≡ length pairs₀
     pub in_order : InOrder rows inside under
     pub cover : Covered pairs₀ rows₀ → Covered pairs rows
-    pub owed : (ts : List Term) (ls : List Literal) (table : List Term) (G : Graph) → DrawnAs ts ls table G → (p : Pair) → PairWithin 511 p → Owed table G b pairs inside under i p ↔ (Owed table G b pairs₀ inside₀ under₀ i p ⊎ ((k : ℕ) × (k < j) × Reached table b p mode (path G (left_at arrays i k) (right_at arrays i k))))
+    pub owed : (ts : List Term) (ls : List Literal) (table : List Term) (G : Graph) → DrawnAs ts ls table G → (p : Pair) → PairWithin 511 p → Owed table G b pairs inside under i p ↔ (Owed table G b pairs₀ inside₀ under₀ i p ⊎ ((k : ℕ) × (k < j) × Reached table b p mode (path G (left_end_at arrays i k) (right_end_at arrays i k))))
 
   -- no argument yet
   pub edge_none : (pairs rows inside under : List Bool) → InOrder rows inside under → EdgeTo pairs rows inside under 0 pairs rows inside under
@@ -262,7 +262,7 @@ module _ (arrays : Drawing) (i : ℕ) (b mode : Bool) where
 
   module _ (h : i < arrays.count) (pairs₀ rows₀ inside₀ under₀ : List Bool) where
     -- one argument more
-    pub edge_more : (j : ℕ) (pairs rows inside under pairs' rows' inside' under' : List Bool) (stops edges : List ℕ) (hops : ℕ) → j < places_at arrays i → ((ts : List Term) (ls : List Literal) (table : List Term) (G : Graph) → DrawnAs ts ls table G → Trailed arrays.inb stops edges hops 0 (path G (left_at arrays i j) (right_at arrays i j))) → EdgeTo pairs₀ rows₀ inside₀ under₀ j pairs rows inside under → Wanted arrays.inb stops edges 0 hops b mode pairs rows inside under pairs' rows' inside' under' → EdgeTo pairs₀ rows₀ inside₀ under₀ (j + 1) pairs' rows' inside' under'
+    pub edge_more : (j : ℕ) (pairs rows inside under pairs' rows' inside' under' : List Bool) (stops edges : List ℕ) (hops : ℕ) → j < paths_at arrays i → ((ts : List Term) (ls : List Literal) (table : List Term) (G : Graph) → DrawnAs ts ls table G → Trailed arrays.inb stops edges hops 0 (path G (left_end_at arrays i j) (right_end_at arrays i j))) → EdgeTo pairs₀ rows₀ inside₀ under₀ j pairs rows inside under → Wanted arrays.inb stops edges 0 hops b mode pairs rows inside under pairs' rows' inside' under' → EdgeTo pairs₀ rows₀ inside₀ under₀ (j + 1) pairs' rows' inside' under'
     edge_more j pairs rows inside under pairs' rows' inside' under' stops edges hops l trail x w =
         record {
           same = w.same ∙ x.same;
@@ -272,12 +272,12 @@ module _ (arrays : Drawing) (i : ℕ) (b mode : Bool) where
         }
       where
         Reads : List Term → Graph → Pair → ℕ → Type 0
-        Reads table G p n = (k : ℕ) × (k < n) × Reached table b p mode (path G (left_at arrays i k) (right_at arrays i k))
+        Reads table G p n = (k : ℕ) × (k < n) × Reached table b p mode (path G (left_end_at arrays i k) (right_end_at arrays i k))
 
-        over : (G : Graph) → (g : Hop) → Memᴰ g (path G (left_at arrays i j) (right_at arrays i j)) → HopOf g G
-        over G g m = path_hop G (left_at arrays i j) (right_at arrays i j) m
+        over : (G : Graph) → (g : Hop) → Memᴰ g (path G (left_end_at arrays i j) (right_end_at arrays i j)) → HopOf g G
+        over G g m = path_hop G (left_end_at arrays i j) (right_end_at arrays i j) m
 
-        low : (ts : List Term) (ls : List Literal) (table : List Term) (G : Graph) → DrawnAs ts ls table G → (g : Hop) → Memᴰ g (path G (left_at arrays i j) (right_at arrays i j)) → length g.older < i
+        low : (ts : List Term) (ls : List Literal) (table : List Term) (G : Graph) → DrawnAs ts ls table G → (g : Hop) → Memᴰ g (path G (left_end_at arrays i j) (right_end_at arrays i j)) → length g.older < i
         low ts ls table G d g m = paired_lower arrays ts ls table G d i h j l g m
 
         to : (ts : List Term) (ls : List Literal) (table : List Term) (G : Graph) → DrawnAs ts ls table G → (p : Pair) → PairWithin 511 p → Owed table G b pairs' inside' under' i p → Owed table G b pairs₀ inside₀ under₀ i p ⊎ Reads table G p (j + 1)
@@ -285,19 +285,19 @@ module _ (arrays : Drawing) (i : ℕ) (b mode : Bool) where
             ⊎_elim
             (λ z. ⊎_elim inl (λ q. inr (q.0, omega (arith, q.1), q.2)) ((x.owed ts ls table G d p v).0 z))
             (λ z. inr (j, omega arith, z))
-            (wants_owed ts ls table G d.sound b p mode (path G (left_at arrays i j) (right_at arrays i j)) (over G) pairs inside under pairs' inside' under' i v (w.wants _ (trail ts ls table G d)) y)
+            (wants_owed ts ls table G d.sound b p mode (path G (left_end_at arrays i j) (right_end_at arrays i j)) (over G) pairs inside under pairs' inside' under' i v (w.wants _ (trail ts ls table G d)) y)
 
         from : (ts : List Term) (ls : List Literal) (table : List Term) (G : Graph) → DrawnAs ts ls table G → (p : Pair) → PairWithin 511 p → Owed table G b pairs₀ inside₀ under₀ i p ⊎ Reads table G p (j + 1) → Owed table G b pairs' inside' under' i p
         from ts ls table G d p v y =
             let wants = w.wants _ (trail ts ls table G d) in
-            let kept : Owed table G b pairs inside under i p → Owed table G b pairs' inside' under' i p = λ z. owed_kept ts ls table G d.sound b p mode (path G (left_at arrays i j) (right_at arrays i j)) (over G) pairs inside under pairs' inside' under' i v wants z in
+            let kept : Owed table G b pairs inside under i p → Owed table G b pairs' inside' under' i p = λ z. owed_kept ts ls table G d.sound b p mode (path G (left_end_at arrays i j) (right_end_at arrays i j)) (over G) pairs inside under pairs' inside' under' i v wants z in
             ⊎_elim
             (λ z. kept ((x.owed ts ls table G d p v).1 (inl z)))
-            (λ q. ⊎_elim (λ (m : q.0 < j). kept ((x.owed ts ls table G d p v).1 (inr (q.0, m, q.2)))) (λ (e : q.0 ≡ j). reached_owed ts ls table G d.sound b p mode (path G (left_at arrays i j) (right_at arrays i j)) (over G) pairs inside under pairs' inside' under' i v wants (low ts ls table G d) (subst (λ (k : ℕ). Reached table b p mode (path G (left_at arrays i k) (right_at arrays i k))) e q.2)) (below_or_is q.0 j (omega (arith, q.1))))
+            (λ q. ⊎_elim (λ (m : q.0 < j). kept ((x.owed ts ls table G d p v).1 (inr (q.0, m, q.2)))) (λ (e : q.0 ≡ j). reached_owed ts ls table G d.sound b p mode (path G (left_end_at arrays i j) (right_end_at arrays i j)) (over G) pairs inside under pairs' inside' under' i v wants (low ts ls table G d) (subst (λ (k : ℕ). Reached table b p mode (path G (left_end_at arrays i k) (right_end_at arrays i k))) e q.2)) (below_or_is q.0 j (omega (arith, q.1))))
             y
 
     -- all of them
-    pub edge_all : (j : ℕ) (pairs rows inside under : List Bool) → j ≡ places_at arrays i → EdgeTo pairs₀ rows₀ inside₀ under₀ j pairs rows inside under → EdgeSettled arrays i b mode pairs₀ rows₀ inside₀ under₀ pairs rows inside under
+    pub edge_all : (j : ℕ) (pairs rows inside under : List Bool) → j ≡ paths_at arrays i → EdgeTo pairs₀ rows₀ inside₀ under₀ j pairs rows inside under → EdgeSettled arrays i b mode pairs₀ rows₀ inside₀ under₀ pairs rows inside under
     edge_all j pairs rows inside under e x =
         record {
           same = x.same;
@@ -320,7 +320,7 @@ module _ (arrays : Drawing) (i : ℕ) (h : i < arrays.count) where
   -- it has a number of the arrays, and no more parent paths than arguments
   pub record Bounds : Type 0 where
     pub number_low : i < 510
-    pub places_low : places_at arrays i ≤ 4
+    pub places_low : paths_at arrays i ≤ 4
 
   -- where a graph is drawn
   pub bounds : (size : ℕ) → DrawnSome arrays size → Bounds
@@ -332,22 +332,22 @@ module _ (arrays : Drawing) (i : ℕ) (h : i < arrays.count) where
         places_low = omega (arith, r.places_is, places_few r.edge.kind _ (d.arity r.edge.left (hop_sound s.0 s.1 s.2 r.walked d.sound).from_within));
       }
 
-  module _ (j : ℕ) (l : j < places_at arrays i) where
+  module _ (j : ℕ) (l : j < paths_at arrays i) where
     -- the paired arguments are joined in the rooted forest
-    pub joining : (ts : List Term) (ls : List Literal) (table : List Term) (G : Graph) → Drawn arrays ts ls table G → Joining arrays.toward arrays.by arrays.rank (left_at arrays i j) (right_at arrays i j) G
+    pub joining : (ts : List Term) (ls : List Literal) (table : List Term) (G : Graph) → Drawn arrays ts ls table G → Joining arrays.toward arrays.by arrays.rank (left_end_at arrays i j) (right_end_at arrays i j) G
     joining ts ls table G d = joins arrays ts ls table G d (paired arrays ts ls table G d i h j l).join
 
     -- so the path between them is asked for
-    pub path_asked : (size : ℕ) → DrawnSome arrays size → (left_at arrays i j < 511) × (right_at arrays i j < 511) × ((G : Graph) × Joining arrays.toward arrays.by arrays.rank (left_at arrays i j) (right_at arrays i j) G)
+    pub path_asked : (size : ℕ) → DrawnSome arrays size → (left_end_at arrays i j < 511) × (right_end_at arrays i j < 511) × ((G : Graph) × Joining arrays.toward arrays.by arrays.rank (left_end_at arrays i j) (right_end_at arrays i j) G)
     path_asked size s =
         let p = paired arrays s.0 s.1 s.2 s.3 s.4 i h j l in
         (omega (arith, p.left_low, s.4.small), omega (arith, p.right_low, s.4.small), (s.3, joining s.0 s.1 s.2 s.3 s.4))
 
     -- and read
-    pub path_given : (r : Trail) → ((G : Graph) → Joining arrays.toward arrays.by arrays.rank (left_at arrays i j) (right_at arrays i j) G → TrailOf G (left_at arrays i j) (right_at arrays i j) r) → (ts : List Term) (ls : List Literal) (table : List Term) (G : Graph) (d : Drawn arrays ts ls table G) → PathRead arrays ts ls table G d (left_at arrays i j) (right_at arrays i j) r.hops r.stops r.edges
+    pub path_given : (r : Trail) → ((G : Graph) → Joining arrays.toward arrays.by arrays.rank (left_end_at arrays i j) (right_end_at arrays i j) G → TrailOf G (left_end_at arrays i j) (right_end_at arrays i j) r) → (ts : List Term) (ls : List Literal) (table : List Term) (G : Graph) (d : Drawn arrays ts ls table G) → PathRead arrays ts ls table G d (left_end_at arrays i j) (right_end_at arrays i j) r.hops r.stops r.edges
     path_given r t ts ls table G d =
         let p = paired arrays ts ls table G d i h j l in
-        path_read arrays ts ls table G d (left_at arrays i j) (right_at arrays i j) p.left_low p.join r (t G (joining ts ls table G d))
+        path_read arrays ts ls table G d (left_end_at arrays i j) (right_end_at arrays i j) p.left_low p.join r (t G (joining ts ls table G d))
 
 -- ---- the pass over the edges
 
@@ -418,7 +418,7 @@ module _ (arrays : Drawing) (b : Bool) where
         (λ ts ls table G d p w. (inl, λ z. ⊎_elim (λ y. y) (λ q. absurd (⊎_elim (λ a. subst T e a.0) (λ a. subst T u a.0) q)) z))
 
     -- an edge without a parent path
-    settle_bare : (0 < places_at arrays (n - 1) → ⊥) → SettledTo pairs₀ rows₀ inside₀ under₀ (n - 1) pairs rows inside under
+    settle_bare : (0 < paths_at arrays (n - 1) → ⊥) → SettledTo pairs₀ rows₀ inside₀ under₀ (n - 1) pairs rows inside under
     settle_bare e =
         settle_turn pairs rows inside under refl x.in_order (λ c. c)
         (λ ts ls table G d p w. (inl, λ z. ⊎_elim (λ y. y) (λ q. absurd (⊎_elim (λ a. none ts ls table G d true p a.1) (λ a. none ts ls table G d false p a.1) q)) z))
@@ -427,22 +427,22 @@ module _ (arrays : Drawing) (b : Bool) where
         none ts ls table G d mode p r = let t = (paired_reached arrays ts ls table G d (n - 1) (omega (arith, x.within)) b mode p).0 r in e (omega (arith, t.1))
 
     -- an edge whose parent paths are asked for
-    pub settle_asked : (pairs' rows' inside' under' : List Bool) → (ltb 0 (places_at arrays (n - 1)) && (get_or inside (n - 1) false || get_or under (n - 1) false)) ≡ true → EdgeSettled arrays (n - 1) b (get_or inside (n - 1) false) pairs rows inside under pairs' rows' inside' under' → SettledTo pairs₀ rows₀ inside₀ under₀ (n - 1) pairs' rows' inside' under'
+    pub settle_asked : (pairs' rows' inside' under' : List Bool) → (ltb 0 (paths_at arrays (n - 1)) && (get_or inside (n - 1) false || get_or under (n - 1) false)) ≡ true → EdgeSettled arrays (n - 1) b (get_or inside (n - 1) false) pairs rows inside under pairs' rows' inside' under' → SettledTo pairs₀ rows₀ inside₀ under₀ (n - 1) pairs' rows' inside' under'
     settle_asked pairs' rows' inside' under' e s = go (get_or inside (n - 1) false) refl e s
       where
-        go : (y : Bool) → get_or inside (n - 1) false ≡ y → (ltb 0 (places_at arrays (n - 1)) && (y || get_or under (n - 1) false)) ≡ true → EdgeSettled arrays (n - 1) b y pairs rows inside under pairs' rows' inside' under' → SettledTo pairs₀ rows₀ inside₀ under₀ (n - 1) pairs' rows' inside' under'
+        go : (y : Bool) → get_or inside (n - 1) false ≡ y → (ltb 0 (paths_at arrays (n - 1)) && (y || get_or under (n - 1) false)) ≡ true → EdgeSettled arrays (n - 1) b y pairs rows inside under pairs' rows' inside' under' → SettledTo pairs₀ rows₀ inside₀ under₀ (n - 1) pairs' rows' inside' under'
         go true q e s = settle_whole pairs' rows' inside' under' q s
         go false q e s =
             let u = get_or under (n - 1) false in
-            let any = ltb 0 (places_at arrays (n - 1)) in
+            let any = ltb 0 (paths_at arrays (n - 1)) in
             settle_under pairs' rows' inside' under' q (passed u (and_right any u (passes (any && u) e))) s
 
     -- one whose are not
-    pub settle_left : (ltb 0 (places_at arrays (n - 1)) && (get_or inside (n - 1) false || get_or under (n - 1) false)) ≡ false → SettledTo pairs₀ rows₀ inside₀ under₀ (n - 1) pairs rows inside under
-    settle_left e = go (ltb 0 (places_at arrays (n - 1))) refl (get_or inside (n - 1) false) refl e
+    pub settle_left : (ltb 0 (paths_at arrays (n - 1)) && (get_or inside (n - 1) false || get_or under (n - 1) false)) ≡ false → SettledTo pairs₀ rows₀ inside₀ under₀ (n - 1) pairs rows inside under
+    settle_left e = go (ltb 0 (paths_at arrays (n - 1))) refl (get_or inside (n - 1) false) refl e
       where
-        go : (x : Bool) → ltb 0 (places_at arrays (n - 1)) ≡ x → (y : Bool) → get_or inside (n - 1) false ≡ y → (x && (y || get_or under (n - 1) false)) ≡ false → SettledTo pairs₀ rows₀ inside₀ under₀ (n - 1) pairs rows inside under
-        go false q y r e = settle_bare (λ h. subst T q (lt→ltb 0 (places_at arrays (n - 1)) h))
+        go : (x : Bool) → ltb 0 (paths_at arrays (n - 1)) ≡ x → (y : Bool) → get_or inside (n - 1) false ≡ y → (x && (y || get_or under (n - 1) false)) ≡ false → SettledTo pairs₀ rows₀ inside₀ under₀ (n - 1) pairs rows inside under
+        go false q y r e = settle_bare (λ h. subst T q (lt→ltb 0 (paths_at arrays (n - 1)) h))
         go true q false r e = settle_unmarked r e
         go true q true r e = let z : ◌≡◌ {A = ℕ} 0 1 = cc in absurd (omega arith)
 

@@ -23,30 +23,30 @@ use Rattle.clauses.proofs.Factors.{Alternate, stretch_of, factors_front}
 use Rattle.clauses.proofs.Pieces.{alternate_alone, alternate_front, end_of_none, end_of_hop}
 
 -- the colour of the edge at a place of the trail
-abbrev pub colour_at : List Bool → List ℕ → ℕ → Bool
-colour_at inb edges k = get_or inb (get_or edges k 0) false
+abbrev pub in_b_at : List Bool → List ℕ → ℕ → Bool
+in_b_at inb edges k = get_or inb (get_or edges k 0) false
 
 -- the edges from place lo to place i have the colour of the first
 pub record SameTo (inb : List Bool) (edges : List ℕ) (lo hi i : ℕ) : Type 0 where
   pub begun : lo < i
   pub within : i ≤ hi
-  pub same : (k : ℕ) → lo ≤ k → k < i → colour_at inb edges k ≡ colour_at inb edges lo
+  pub same : (k : ℕ) → lo ≤ k → k < i → in_b_at inb edges k ≡ in_b_at inb edges lo
 
 -- the first alone
 pub same_first : (inb : List Bool) (edges : List ℕ) (lo hi : ℕ) → lo < hi → SameTo inb edges lo hi (lo + 1)
-same_first inb edges lo hi n = record { begun = omega arith; within = omega arith; same = λ k h l. ap (colour_at inb edges) (omega (arith, h, l)) }
+same_first inb edges lo hi n = record { begun = omega arith; within = omega arith; same = λ k h l. ap (in_b_at inb edges) (omega (arith, h, l)) }
 
 -- one more
-pub same_more : (inb : List Bool) (edges : List ℕ) (lo hi i : ℕ) → i < hi → SameTo inb edges lo hi i → colour_at inb edges i ≡ colour_at inb edges lo → SameTo inb edges lo hi (i + 1)
+pub same_more : (inb : List Bool) (edges : List ℕ) (lo hi i : ℕ) → i < hi → SameTo inb edges lo hi i → in_b_at inb edges i ≡ in_b_at inb edges lo → SameTo inb edges lo hi (i + 1)
 same_more inb edges lo hi i n s e =
     record {
       begun = omega (arith, s.begun);
       within = omega arith;
-      same = λ k h l. ⊎_elim (λ (m : k < i). s.same k h m) (λ (q : k ≡ i). ap (colour_at inb edges) q ∙ e) (below_or_is k i (omega (arith, l)));
+      same = λ k h l. ⊎_elim (λ (m : k < i). s.same k h m) (λ (q : k ≡ i). ap (in_b_at inb edges) q ∙ e) (below_or_is k i (omega (arith, l)));
     }
 
 -- the stretch ends at an edge of the other colour
-pub same_other : (inb : List Bool) (edges : List ℕ) (lo hi i : ℕ) → SameTo inb edges lo hi i → (colour_at inb edges i ≡ colour_at inb edges lo → ⊥) → StretchEnd inb edges lo hi i
+pub same_other : (inb : List Bool) (edges : List ℕ) (lo hi i : ℕ) → SameTo inb edges lo hi i → (in_b_at inb edges i ≡ in_b_at inb edges lo → ⊥) → StretchEnd inb edges lo hi i
 same_other inb edges lo hi i s d = record { begins = s.begun; inside = s.within; one_colour = s.same; longest = inr d }
 
 -- or at the end of the trail
@@ -98,7 +98,7 @@ module _ (inb : List Bool) (stops edges : List ℕ) (hi : ℕ) where
     pub after : lo ≤ place
     pub before : place < hi'
     pub number : get_or edges place 0 ≡ length h.older
-    pub colour : colour_at inb edges place ≡ is_b h.colour
+    pub colour : in_b_at inb edges place ≡ is_b h.colour
 
   -- a trail in two parts, where it is cut
   pub record Cut (lo r : ℕ) (π : Path) : Type 0 where
@@ -134,7 +134,7 @@ module _ (inb : List Bool) (stops edges : List ℕ) (hi : ℕ) where
           }
 
   -- what is behind the stretch of one colour begins in the other
-  stretch_alternate : {r : ℕ} {ρ : Path} (h : Hop) (b : Bool) → is_b h.colour ≡ b → ((r ≡ hi) ⊎ (colour_at inb edges r ≡ b → ⊥)) → Trailed inb stops edges hi r ρ → Alternate (alone h ∷ factors ρ)
+  stretch_alternate : {r : ℕ} {ρ : Path} (h : Hop) (b : Bool) → is_b h.colour ≡ b → ((r ≡ hi) ⊎ (in_b_at inb edges r ≡ b → ⊥)) → Trailed inb stops edges hi r ρ → Alternate (alone h ∷ factors ρ)
   stretch_alternate h b e l (done q) = alternate_alone h
   stretch_alternate {r} h b e l (step {h = g} {π = ρ} x y z w t) =
       alternate_front h g ρ
@@ -144,7 +144,7 @@ module _ (inb : List Bool) (stops edges : List ℕ) (hi : ℕ) where
   pub record FirstFactor (lo r : ℕ) (π : Path) : Type 0 where
     pub rest : Path
     pub behind : Trailed inb stops edges hi r rest
-    pub ends : (b : Bool) (p : Pair) → EndOf b π p ↔ (((colour_at inb edges lo ≡ b) × (p ≡ between (get_or stops lo 0) (get_or stops r 0))) ⊎ EndOf b rest p)
+    pub ends : (b : Bool) (p : Pair) → EndOf b π p ↔ (((in_b_at inb edges lo ≡ b) × (p ≡ between (get_or stops lo 0) (get_or stops r 0))) ⊎ EndOf b rest p)
 
   -- each trail begins so
   pub first_factor : {lo : ℕ} {π : Path} (r : ℕ) → StretchEnd inb edges lo hi r → Trailed inb stops edges hi lo π → FirstFactor lo r π
@@ -152,7 +152,7 @@ module _ (inb : List Bool) (stops edges : List ℕ) (hi : ℕ) where
   first_factor {lo} {π} r s (step {h = h} {π = σ} x y z w t) =
       let c = trailed_cut r s.begins s.inside t in
       let one : (g : Hop) → Memᴰ g c.front → g.colour ≡ h.colour = λ g m. let a = c.places g m in is_b_one g.colour h.colour (sym a.colour ∙ s.one_colour a.place (omega (arith, a.after)) a.before ∙ w) in
-      let parts : factors (h ∷ σ) ≡ stretch_of h c.front ∷ factors c.rest = ap (λ (τ : Path). factors (h ∷ τ)) c.whole ∙ factors_front h c.front c.rest one (stretch_alternate h (colour_at inb edges lo) (sym w) s.longest c.behind) in
+      let parts : factors (h ∷ σ) ≡ stretch_of h c.front ∷ factors c.rest = ap (λ (τ : Path). factors (h ∷ τ)) c.whole ∙ factors_front h c.front c.rest one (stretch_alternate h (in_b_at inb edges lo) (sym w) s.longest c.behind) in
       let here : ends_of (stretch_of h c.front) ≡ between (get_or stops lo 0) (get_or stops r 0) = ap₂ between (sym x) (ap (λ (n : ℕ). end_of n c.front) (sym y) ∙ c.reaches) in
       record {
         rest = c.rest;

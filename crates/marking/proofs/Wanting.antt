@@ -14,11 +14,11 @@ use Rattle.clauses.specs.Clauses.{between}
 use Rattle.marking.specs.Marks.{is_b, EndOf, EdgeOf, PairWithin, PairMarked, Marked, Trailed, done, step, StretchEnd, Covered, PairAdded, FactorsAdded, EdgesAdded, Wanted}
 use Rattle.marking.proofs.Squares.{marked_more}
 use Rattle.clauses.proofs.Pieces.{no_factor}
-use Rattle.marking.proofs.Trails.{colour_at, flags_differ, trailed_forward, first_factor}
+use Rattle.marking.proofs.Trails.{in_b_at, flags_differ, trailed_forward, first_factor}
 
 -- one hop of a trail read
 abbrev Next : List Bool → List ℕ → List ℕ → ℕ → ℕ → Path → Type 0
-Next inb stops edges hi lo π = (h : Hop) × (ρ : Path) × (π ≡ h ∷ ρ) × (get_or edges lo 0 ≡ length h.older) × (colour_at inb edges lo ≡ is_b h.colour) × Trailed inb stops edges hi (suc lo) ρ
+Next inb stops edges hi lo π = (h : Hop) × (ρ : Path) × (π ≡ h ∷ ρ) × (get_or edges lo 0 ≡ length h.older) × (in_b_at inb edges lo ≡ is_b h.colour) × Trailed inb stops edges hi (suc lo) ρ
 
 module _ (inb : List Bool) (stops edges : List ℕ) (lo hi : ℕ) (b : Bool) where
   -- ---- factors
@@ -38,7 +38,7 @@ module _ (inb : List Bool) (stops edges : List ℕ) (lo hi : ℕ) (b : Bool) whe
 
   module _ (pairs₀ rows₀ pairs rows : List Bool) (at r : ℕ) (s : StretchEnd inb edges at hi r) (u : FactorsUpTo pairs₀ rows₀ at pairs rows) where
     -- a factor of the colour: its ends are marked
-    pub factors_mark : (pairs' rows' : List Bool) → colour_at inb edges at ≡ b → PairAdded (between (get_or stops at 0) (get_or stops r 0)) pairs rows pairs' rows' → FactorsUpTo pairs₀ rows₀ r pairs' rows'
+    pub factors_mark : (pairs' rows' : List Bool) → in_b_at inb edges at ≡ b → PairAdded (between (get_or stops at 0) (get_or stops r 0)) pairs rows pairs' rows' → FactorsUpTo pairs₀ rows₀ r pairs' rows'
     factors_mark pairs' rows' e m =
         record {
           after = omega (arith, u.after, s.begins);
@@ -50,7 +50,7 @@ module _ (inb : List Bool) (stops edges : List ℕ) (lo hi : ℕ) (b : Bool) whe
         }
 
     -- a factor of the other colour is passed over
-    pub factors_skip : (colour_at inb edges at ≡ b → ⊥) → FactorsUpTo pairs₀ rows₀ r pairs rows
+    pub factors_skip : (in_b_at inb edges at ≡ b → ⊥) → FactorsUpTo pairs₀ rows₀ r pairs rows
     factors_skip d =
         record {
           after = omega (arith, u.after, s.begins);
@@ -95,13 +95,13 @@ module _ (inb : List Bool) (stops edges : List ℕ) (lo hi : ℕ) (b : Bool) whe
   next_hop h (step {h = g} {π = σ} x y z w t) = (g, σ, refl, z, w, t)
 
   -- the edges of the rest are the edge at the place, where it has the colour, and those after it
-  next_edges : {i : ℕ} {ρ : Path} (n : Next inb stops edges hi i ρ) (k : ℕ) → EdgeOf b ρ k ↔ (((colour_at inb edges i ≡ b) × (k ≡ get_or edges i 0)) ⊎ EdgeOf b n.1 k)
+  next_edges : {i : ℕ} {ρ : Path} (n : Next inb stops edges hi i ρ) (k : ℕ) → EdgeOf b ρ k ↔ (((in_b_at inb edges i ≡ b) × (k ≡ get_or edges i 0)) ⊎ EdgeOf b n.1 k)
   next_edges n k =
       (λ e. ⊎_elim (λ q. inl (n.4 ∙ ap (λ (h : Hop). is_b h.colour) (sym q) ∙ e.2, sym (n.3 ∙ ap (λ (h : Hop). length h.older) (sym q) ∙ e.3))) (λ m. inr (e.0, m, e.2, e.3)) (Memᴰ.cases_cons (subst (Memᴰ e.0) n.2 e.1)), λ e. ⊎_elim (λ q. (n.0, subst (Memᴰ n.0) (sym n.2) (Memᴰ.head refl), sym n.4 ∙ q.0, sym n.3 ∙ sym q.1)) (λ m. (m.0, subst (Memᴰ m.0) (sym n.2) (Memᴰ.tail m.1), m.2, m.3)) e)
 
   module _ (marks₀ marks : List Bool) (i : ℕ) (h : i < hi) (low : get_or edges i 0 < 510) (u : EdgesUpTo marks₀ i marks) where
     -- an edge of the colour is marked
-    pub edges_mark : colour_at inb edges i ≡ b → EdgesUpTo marks₀ (i + 1) (set marks (get_or edges i 0) true)
+    pub edges_mark : in_b_at inb edges i ≡ b → EdgesUpTo marks₀ (i + 1) (set marks (get_or edges i 0) true)
     edges_mark e =
         record {
           after = omega (arith, u.after);
@@ -111,7 +111,7 @@ module _ (inb : List Bool) (stops edges : List ℕ) (lo hi : ℕ) (b : Bool) whe
         }
 
     -- one of the other colour is passed over
-    pub edges_skip : (colour_at inb edges i ≡ b → ⊥) → EdgesUpTo marks₀ (i + 1) marks
+    pub edges_skip : (in_b_at inb edges i ≡ b → ⊥) → EdgesUpTo marks₀ (i + 1) marks
     edges_skip d =
         record {
           after = omega (arith, u.after);

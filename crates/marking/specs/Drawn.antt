@@ -20,9 +20,9 @@ is_derived Derived = true
 
 -- the parts of an edge stand under its number: how many edges are older
 pub record PartsAt (lefts rights : List ℕ) (inb derived : List Bool) (G : Graph) (e : Edge) : Type 0 where
-  pub left_at_is : get_or lefts (length G) 0 ≡ e.left
-  pub right_at_is : get_or rights (length G) 0 ≡ e.right
-  pub colour_at_is : get_or inb (length G) false ≡ is_b e.colour
+  pub left_at : get_or lefts (length G) 0 ≡ e.left
+  pub right_at : get_or rights (length G) 0 ≡ e.right
+  pub colour_at : get_or inb (length G) false ≡ is_b e.colour
   pub kind_at : get_or derived (length G) false ≡ is_derived e.kind
 
 -- how many parent paths an edge has whose ends have n arguments
@@ -32,10 +32,10 @@ parents_for Derived n = n
 
 -- what the clause layer asks of an edge stands under its number: its colour, how many parent paths it has, and where they begin and end
 pub record EdgeAt (table : List Term) (inb : List Bool) (places parents : List ℕ) (G : Graph) (e : Edge) : Type 0 where
-  pub colour_at_is : get_or inb (length G) false ≡ is_b e.colour
-  pub places_at_is : get_or places (length G) 0 ≡ parents_for e.kind (length (term_at table e.left).arguments)
-  pub left_at_is : (k : ℕ) → k < get_or places (length G) 0 → get_or parents (8 * length G + k) 0 ≡ get_or (term_at table e.left).arguments k 0
-  pub right_at_is : (k : ℕ) → k < get_or places (length G) 0 → get_or parents (8 * length G + 4 + k) 0 ≡ get_or (term_at table e.right).arguments k 0
+  pub colour_at : get_or inb (length G) false ≡ is_b e.colour
+  pub places_at : get_or places (length G) 0 ≡ parents_for e.kind (length (term_at table e.left).arguments)
+  pub left_at : (k : ℕ) → k < get_or places (length G) 0 → get_or parents (8 * length G + k) 0 ≡ get_or (term_at table e.left).arguments k 0
+  pub right_at : (k : ℕ) → k < get_or places (length G) 0 → get_or parents (8 * length G + 4 + k) 0 ≡ get_or (term_at table e.right).arguments k 0
 
 -- The arrays that the clause layer is lent. For each vertex the way to its root; for each edge whether its colour is B, how many parent paths it has,
 -- and their ends, four places for those at the left end's arguments and four for those at the right end's.

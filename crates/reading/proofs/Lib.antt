@@ -2,3 +2,4 @@
 pub mod Marks
 pub mod Columns
 pub mod Keys
+pub mod Sides

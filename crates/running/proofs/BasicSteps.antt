@@ -20,6 +20,7 @@ use Rattle.tables.specs.declared.Check.TheVariants.{Sound}
 use Rattle.tables.proofs.Words.{and_right, passes, length_below, mem_below}
 use Rattle.tables.proofs.Sound.{SoundTables, sound, sound_literal, sides_within, length_terms_of, length_literals_of, literal_at_is}
 use Rattle.closure.proofs.Walking.Joined.{joined_by}
+use Rattle.reading.proofs.Sides.{sides_below}
 use Rattle.reading.specs.Fields.{fields_of}
 use Rattle.reading.specs.declared.literal.Fields.{Fields}
 use Rattle.closure.specs.Graph.{Graph, label, joined}
@@ -133,6 +134,10 @@ module _ (bs ls : List ℕ) (passed : checked bs ls ≡ Sound) where
     pub sides_small : ((fields_of (literal_record ls k)).left < 256) × ((fields_of (literal_record ls k)).right < 256)
     sides_small = (omega (arith, sides_in.0, settled.terms_fit), omega (arith, sides_in.1, settled.terms_fit))
 
+    -- as they were read, too
+    pub sides_read : {l : Fields} → l ≡ fields_of (literal_record ls k) → (l.left < 256) × (l.right < 256)
+    sides_read read = sides_below ls k 256 read sides_small.0 sides_small.1
+
   -- ---- the turns
 
   -- the state after i records
@@ -177,11 +182,11 @@ module _ (bs ls : List ℕ) (passed : checked bs ls ≡ Sound) where
     test_is : test ≡ is_equal (get_or all i no_literal).kind && not (joined (after i).graph (get_or all i no_literal).left (get_or all i no_literal).right)
     test_is =
         let G = (after i).graph in
-        let small = sides_small i h in
+        let small = sides_read i h read in
         let at_left : get_or s.labels f.left 0 ≡ label G (get_or all i no_literal).left =
-        shown_label (terms_of bs) all (after i) s shows f.left (omega (arith, ap (λ (x : Fields). x.left) read, small.0)) ∙ ap (label G) left_read in
+        shown_label (terms_of bs) all (after i) s shows f.left (omega (arith, small.0)) ∙ ap (label G) left_read in
         let at_right : get_or s.labels f.right 0 ≡ label G (get_or all i no_literal).right =
-        shown_label (terms_of bs) all (after i) s shows f.right (omega (arith, ap (λ (x : Fields). x.right) read, small.1)) ∙ ap (label G) right_read in
+        shown_label (terms_of bs) all (after i) s shows f.right (omega (arith, small.1)) ∙ ap (label G) right_read in
         ap₂ (λ (x y : Bool). x && y) (ap (λ (x : Fields). eqb x.kind 1) read ∙ kind_is i h) (ap₂ (λ (x y : ℕ). not (eqb x y)) at_left at_right ∙ ap not (sym (joined_by G (get_or all i no_literal).left (get_or all i no_literal).right)))
 
     -- the state after one record more

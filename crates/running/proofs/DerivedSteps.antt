@@ -18,8 +18,8 @@ use Rattle.tables.proofs.Words.{passes, fails}
 use Rattle.tables.proofs.Colours.{edge_colourable_ends, odd_test, two_test}
 use Rattle.closure.specs.Graph.{joined}
 use Rattle.closure.specs.declared.EdgeKind.TheVariants.{Derived as derived}
-use Rattle.closure.specs.Steps.{State, table_of, vertex, congruent, with_edge, derived_step_is}
-use Rattle.closure.specs.OwnRun.{derivable, middle_from, derived_step}
+use Rattle.closure.specs.Steps.{State, table_of, vertex, congruent, with_edge, derived_step}
+use Rattle.closure.specs.OwnRun.{derivable, middle_from, derived_on}
 use Rattle.running.specs.Stepping.{OnRun, Apart, colouring, Outcome}
 use Rattle.running.specs.declared.step.Colouring.TheVariants.{Of, Middle}
 use Rattle.running.specs.declared.state.State.{State as Arrays}
@@ -97,7 +97,7 @@ module _ {a : Arrays} (run : OnRun a) (s t : ℕ) (d : T (derivable run.ts run.l
 
   -- there is room for an edge between them
   edge_room : (X : Side) → T (edge_colourable ts ls X table s t) → a.graph.count < 510
-  edge_room X e = omega (arith, run.shows.count, step_edges run (derived_step_is s t X left_vertex right_vertex unjoined alike e))
+  edge_room X e = omega (arith, run.shows.count, step_edges run (derived_step s t X left_vertex right_vertex unjoined alike e))
 
   -- ---- the tests of the colours
 
@@ -135,27 +135,27 @@ module _ {a : Arrays} (run : OnRun a) (s t : ℕ) (d : T (derivable run.ts run.l
       (cond r (middle_from ts ls st s t) (middle_from ts ls st t s)))
 
   -- it is the step
-  step_is : (p q r : Bool) → edge_colourable ts ls B table s t ≡ p → edge_colourable ts ls A table s t ≡ q → colourable ts ls A table s ≡ r → derived_step ts ls st (pair s t) ≡ by_colours p q r
-  unfolding derived_step
+  step_is : (p q r : Bool) → edge_colourable ts ls B table s t ≡ p → edge_colourable ts ls A table s t ≡ q → colourable ts ls A table s ≡ r → derived_on ts ls st (pair s t) ≡ by_colours p q r
+  unfolding derived_on
   step_is p q r e f g = λ i. by_colours (e i) (f i) (g i)
 
   -- an edge of the colour that the numbers say: there is room for it, and it is the step
-  pub plain_step : (X : Side) → colouring x y ≡ Of X → (a.graph.count < 510) × (derived_step ts ls st (pair s t) ≡ some (with_edge st s t X derived))
+  pub plain_step : (X : Side) → colouring x y ≡ Of X → (a.graph.count < 510) × (derived_on ts ls st (pair s t) ≡ some (with_edge st s t X derived))
   plain_step X e = ⊎_elim in_b in_a (edge_tests x y X e)
     where
       -- it has the colour X
-      as_x : (Y : Side) → X ≡ Y → derived_step ts ls st (pair s t) ≡ some (with_edge st s t Y derived) → derived_step ts ls st (pair s t) ≡ some (with_edge st s t X derived)
+      as_x : (Y : Side) → X ≡ Y → derived_on ts ls st (pair s t) ≡ some (with_edge st s t Y derived) → derived_on ts ls st (pair s t) ≡ some (with_edge st s t X derived)
       as_x Y q h = h ∙ ap (λ (Z : Side). some (with_edge st s t Z derived)) (sym q)
 
       -- in B
-      in_b : (leb 2 x && leb 2 y ≡ true) × (X ≡ B) → (a.graph.count < 510) × (derived_step ts ls st (pair s t) ≡ some (with_edge st s t X derived))
+      in_b : (leb 2 x && leb 2 y ≡ true) × (X ≡ B) → (a.graph.count < 510) × (derived_on ts ls st (pair s t) ≡ some (with_edge st s t X derived))
       in_b w = (
         edge_room B (passes (edge_colourable ts ls B table s t) (sym both_b ∙ w.0)),
         as_x B w.1 (step_is true (edge_colourable ts ls A table s t) (colourable ts ls A table s) (sym both_b ∙ w.0) refl refl),
       )
 
       -- in A
-      in_a : (leb 2 x && leb 2 y ≡ false) × (eqb (x % 2) 1 && eqb (y % 2) 1 ≡ true) × (X ≡ A) → (a.graph.count < 510) × (derived_step ts ls st (pair s t) ≡ some (with_edge st s t X derived))
+      in_a : (leb 2 x && leb 2 y ≡ false) × (eqb (x % 2) 1 && eqb (y % 2) 1 ≡ true) × (X ≡ A) → (a.graph.count < 510) × (derived_on ts ls st (pair s t) ≡ some (with_edge st s t X derived))
       in_a w = (
         edge_room A (passes (edge_colourable ts ls A table s t) (sym both_a ∙ w.1)),
         as_x A w.2 (step_is false true (colourable ts ls A table s) (sym both_b ∙ w.0) (sym both_a ∙ w.1) refl),
@@ -178,7 +178,7 @@ module _ {a : Arrays} (run : OnRun a) (s t : ℕ) (d : T (derivable run.ts run.l
         record { left_vertex = left_vertex; right_vertex = right_vertex; unjoined = unjoined; alike = alike; left_a = sa; left_not_b = w.0; right_b = w.1; right_not_a = w.2 }
 
     -- it is the step then
-    pub outcome_left : eqb (x % 2) 1 ≡ true → (r : Arrays) → Outcome ts ls (middle_from ts ls st s t) r → Outcome ts ls (derived_step ts ls st (pair s t)) r
+    pub outcome_left : eqb (x % 2) 1 ≡ true → (r : Arrays) → Outcome ts ls (middle_from ts ls st s t) r → Outcome ts ls (derived_on ts ls st (pair s t)) r
     outcome_left e r h = subst (λ (o : Option State). Outcome ts ls o r) (sym (step_is false false true edge_not_b edge_not_a (sym (odd_at s left_vertex) ∙ e))) h
 
     -- and from t
@@ -189,5 +189,5 @@ module _ {a : Arrays} (run : OnRun a) (s t : ℕ) (d : T (derivable run.ts run.l
         record { left_vertex = right_vertex; right_vertex = left_vertex; unjoined = unjoined_sym st.graph s t unjoined; alike = congruent_sym table st.graph s t alike; left_a = w.0; left_not_b = w.1; right_b = w.2; right_not_a = sa }
 
     -- it is the step then
-    pub outcome_right : eqb (x % 2) 1 ≡ false → (r : Arrays) → Outcome ts ls (middle_from ts ls st t s) r → Outcome ts ls (derived_step ts ls st (pair s t)) r
+    pub outcome_right : eqb (x % 2) 1 ≡ false → (r : Arrays) → Outcome ts ls (middle_from ts ls st t s) r → Outcome ts ls (derived_on ts ls st (pair s t)) r
     outcome_right e r h = subst (λ (o : Option State). Outcome ts ls o r) (sym (step_is false false false edge_not_b edge_not_a (sym (odd_at s left_vertex) ∙ e))) h

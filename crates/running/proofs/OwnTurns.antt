@@ -8,7 +8,7 @@ use Prim.Native.Nat.{ℕ, zero, suc, ◌-◌, ◌≤◌, ◌<◌}
 use native.Mathlib.Omega.{arith}
 use lib.Dec.{T}
 use lib.ListN.{length, get_or, get_or-eq_default}
-use Rattle.tables.specs.Words.{Pair, pairs_below}
+use Rattle.tables.specs.Words.{Pair, pair, pairs_below}
 use Rattle.tables.specs.Terms.{Term, term_at}
 use Rattle.tables.specs.TermTable.{term_count, term_record, symbol_field, arity_field, term_of, terms_of}
 use Rattle.tables.specs.LiteralTable.{Literal, literals_of}
@@ -17,9 +17,11 @@ use Rattle.tables.proofs.Words.{below_or_is, below_or_not, get_d_mem, first_of_s
 use Rattle.tables.proofs.Filled.{filled_behind}
 use Rattle.tables.proofs.Sound.{SoundTables, length_terms_of, term_at_terms_of, arity_small, later_arity, lower_arguments, sides_within}
 use Rattle.closure.specs.Steps.{State, begin, table_of, Step, Run, start, next}
-use Rattle.closure.specs.OwnRun.{basic_steps, derivable, first_pair, derived_step, turns_at, own_run}
+use Rattle.closure.specs.OwnRun.{basic_steps, derivable, first_pair, derived_on, turns_at, own_run}
 use Rattle.running.specs.Shown.{padded, row_for, Shows, halted}
-use Rattle.running.specs.Keys.{no_row, FieldsWithin, Orderly, OneArity}
+use Rattle.running.specs.Keys.{no_row, FieldsWithin, pair_of, Orderly, OneArity}
+use Rattle.running.specs.declared.search.Pair.{Pair as FoundPair}
+use Rattle.running.specs.declared.search.Pair.TheVariants.{Of}
 use Rattle.running.specs.Opening.{ReadFrom}
 use Rattle.running.specs.Stepping.{Checked, OnRun, Outcome, Ends}
 use Rattle.running.specs.declared.Row.{Row}
@@ -82,7 +84,20 @@ pub record TurnsLeft {first : Arrays} (run : OnRun first) (given : ℕ) (a : Arr
   pub shows : Shows run.ts run.ls reached a
   pub steps : ℕ
   pub going : Run run.ts run.ls steps reached
-  pub left : turns_at (first_pair run.ts run.ls) (derived_step run.ts run.ls) given run.reached ≡ turns_at (first_pair run.ts run.ls) (derived_step run.ts run.ls) turns reached
+  pub left : turns_at (first_pair run.ts run.ls) (derived_on run.ts run.ls) given run.reached ≡ turns_at (first_pair run.ts run.ls) (derived_on run.ts run.ls) turns reached
+
+-- what the search hands out: the first pair of the state, which can be derived, of terms whose numbers fit
+pub record Found {first : Arrays} (run : OnRun first) (reached : State) (s t : ℕ) : Type 0 where
+  pub is_first : first_pair run.ts run.ls reached ≡ some (pair s t)
+  pub can_derive : T (derivable run.ts run.ls reached (pair s t))
+  pub left_fits : s < 256
+  pub right_fits : t < 256
+
+pub found_pair : {first : Arrays} (run : OnRun first) {given : ℕ} {a : Arrays} {turns : ℕ} (w : TurnsLeft run given a turns) {handed : FoundPair} {s t : ℕ} → pair_of handed ≡ first_pair run.ts run.ls w.reached → handed ≡ Of s t → Found run w.reached s t
+found_pair run w {s = s} {t = t} e is =
+    let first : first_pair run.ts run.ls w.reached ≡ some (pair s t) = sym e ∙ ap pair_of is in
+    let found = found_derivable run.ts run.ls w.reached (pair s t) first in
+    record { is_first = first; can_derive = found.0; left_fits = omega (arith, found.1, run.checked.few); right_fits = omega (arith, found.2, run.checked.few) }
 
 module _ {first : Arrays} (run : OnRun first) (given : ℕ) where
   -- the given terms
@@ -95,7 +110,7 @@ module _ {first : Arrays} (run : OnRun first) (given : ℕ) where
 
   -- the end of the turns
   abbrev pub end : Option State
-  end = turns_at (first_pair ts ls) (derived_step ts ls) given run.reached
+  end = turns_at (first_pair ts ls) (derived_on ts ls) given run.reached
 
   -- before the first turn
   pub all_left : TurnsLeft run given first given
@@ -115,7 +130,7 @@ module _ {first : Arrays} (run : OnRun first) (given : ℕ) where
     unfolding turns_at
     no_turn_left l =
         let z : turns ≡ 0 = omega arith in
-        shown_end (w.left ∙ ap (λ (k : ℕ). turns_at (first_pair ts ls) (derived_step ts ls) k w.reached) z)
+        shown_end (w.left ∙ ap (λ (k : ℕ). turns_at (first_pair ts ls) (derived_on ts ls) k w.reached) z)
 
     module _ (more : 0 < turns) where
       -- there is a turn
@@ -123,24 +138,24 @@ module _ {first : Arrays} (run : OnRun first) (given : ℕ) where
       one_more = omega arith
 
       -- which comes next
-      turn_is : end ≡ turns_at (first_pair ts ls) (derived_step ts ls) (suc (turns - 1)) w.reached
-      turn_is = w.left ∙ ap (λ (k : ℕ). turns_at (first_pair ts ls) (derived_step ts ls) k w.reached) one_more
+      turn_is : end ≡ turns_at (first_pair ts ls) (derived_on ts ls) (suc (turns - 1)) w.reached
+      turn_is = w.left ∙ ap (λ (k : ℕ). turns_at (first_pair ts ls) (derived_on ts ls) k w.reached) one_more
 
       -- no pair is left
       pub no_pair_left : first_pair ts ls w.reached ≡ none → Outcome ts ls end (halted a false)
-      no_pair_left e = shown_end (turn_is ∙ turns_none (first_pair ts ls) (derived_step ts ls) (turns - 1) w.reached e)
+      no_pair_left e = shown_end (turn_is ∙ turns_none (first_pair ts ls) (derived_on ts ls) (turns - 1) w.reached e)
 
       module _ (p : Pair) (e : first_pair ts ls w.reached ≡ some p) (r : Arrays) where
         -- row 8
-        pub turn_stuck : Outcome ts ls (derived_step ts ls w.reached p) r → r.stuck ≡ true → Outcome ts ls end r
+        pub turn_stuck : Outcome ts ls (derived_on ts ls w.reached p) r → r.stuck ≡ true → Outcome ts ls end r
         turn_stuck o q =
             ⊎_elim
-            (λ h. inl (q, turn_is ∙ turns_stuck (first_pair ts ls) (derived_step ts ls) (turns - 1) w.reached p e h.1))
+            (λ h. inl (q, turn_is ∙ turns_stuck (first_pair ts ls) (derived_on ts ls) (turns - 1) w.reached p e h.1))
             (λ h. absurd (not_both h.0 q))
             o
 
         -- a step taken, to the arrays that show where it leads
-        pub turn_shown : (after : State) → derived_step ts ls w.reached p ≡ some after → Shows ts ls after r → TurnsLeft run given r (turns - 1)
+        pub turn_shown : (after : State) → derived_on ts ls w.reached p ≡ some after → Shows ts ls after r → TurnsLeft run given r (turns - 1)
         turn_shown after d shows =
             let x = first_pair_step ts ls run.checked.lower run.checked.sides w.reached (on_run_sound onward) p e in
             record {
@@ -148,7 +163,7 @@ module _ {first : Arrays} (run : OnRun first) (given : ℕ) where
               shows = shows;
               steps = suc w.steps;
               going = next w.going (subst (Step ts ls w.reached) (same x.0 after (sym x.1 ∙ d)) x.2);
-              left = turn_is ∙ turns_some (first_pair ts ls) (derived_step ts ls) (turns - 1) w.reached after p e d;
+              left = turn_is ∙ turns_some (first_pair ts ls) (derived_on ts ls) (turns - 1) w.reached after p e d;
             }
           where
             -- a step leads to one state
@@ -156,7 +171,7 @@ module _ {first : Arrays} (run : OnRun first) (given : ℕ) where
             same z after h = cc
 
         -- by what came out of it
-        pub turn_taken : Outcome ts ls (derived_step ts ls w.reached p) r → r.stuck ≡ false → TurnsLeft run given r (turns - 1)
+        pub turn_taken : Outcome ts ls (derived_on ts ls w.reached p) r → r.stuck ≡ false → TurnsLeft run given r (turns - 1)
         turn_taken o q = ⊎_elim (λ h. absurd (not_both q h.0)) (λ h. turn_shown h.1.0 h.1.1 h.1.2) o
 
 -- ---- from the tables
@@ -230,8 +245,8 @@ module _ (t : Tables) (from : ReadFrom t) where
     turns_given = terms_are t from ∙ sym (length_terms_of bs)
 
     -- so the turns end the library's own run
-    pub ends : (r : Arrays) → ((run : OnRun a) → t.terms ≡ length run.ts → Outcome run.ts run.ls (turns_at (first_pair run.ts run.ls) (derived_step run.ts run.ls) t.terms run.reached) r) → Ends given literals r
+    pub ends : (r : Arrays) → ((run : OnRun a) → t.terms ≡ length run.ts → Outcome run.ts run.ls (turns_at (first_pair run.ts run.ls) (derived_on run.ts run.ls) t.terms run.reached) r) → Ends given literals r
     unfolding after_basic own_run
     ends r h =
-        subst (λ (k : ℕ). Outcome given literals (turns_at (first_pair given literals) (derived_step given literals) k (basic_steps literals begin)) r)
+        subst (λ (k : ℕ). Outcome given literals (turns_at (first_pair given literals) (derived_on given literals) k (basic_steps literals begin)) r)
         (terms_are t from ∙ sym (length_terms_of bs)) (h after_basic (terms_are t from ∙ sym (length_terms_of bs)))

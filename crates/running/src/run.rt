@@ -6,7 +6,7 @@ ghost use Rattle.tables.specs.TermTable.{terms_of};
 ghost use Rattle.tables.specs.LiteralTable.{literals_of};
 ghost use Rattle.tables.specs.Read.{argument_rows};
 ghost use Rattle.closure.specs.Steps.{begin as noSteps};
-ghost use Rattle.closure.specs.OwnRun.{basic_steps, first_pair, derived_step, turns_at};
+ghost use Rattle.closure.specs.OwnRun.{basic_steps, first_pair, derived_on, turns_at};
 ghost use Rattle.tables.specs.declared.Check.TheVariants.{Sound};
 ghost use Rattle.running.specs.Shown.{Shows, regraphed};
 ghost use Rattle.running.specs.Opening.{ReadFrom};
@@ -56,7 +56,7 @@ fn basic_steps(labels: &mut [u16; 511], graph: Graph, literals: &[u8]) -> Graph
 // are given terms, of which there are n.
 fn derived_steps(start: State, n: usize) -> State
     requires { (run : OnRun start) × (n ≡ length run.ts) }
-    ensures { (run : OnRun start) → n ≡ length run.ts → Outcome run.ts run.ls (turns_at (first_pair run.ts run.ls) (derived_step run.ts run.ls) n run.reached) result }
+    ensures { (run : OnRun start) → n ≡ length run.ts → Outcome run.ts run.ls (turns_at (first_pair run.ts run.ls) (derived_on run.ts run.ls) n run.reached) result }
 {
     let mut st = start;
     let mut turns = n;

@@ -5,7 +5,7 @@ ghost use Rattle.tables.specs.Words.{same, first_of, pair};
 ghost use Rattle.tables.specs.Terms.{Term};
 ghost use Rattle.tables.specs.LiteralTable.{Literal};
 ghost use Rattle.closure.specs.Steps.{State as Reached, table_of, vertex_equal, tied as tiedIn};
-ghost use Rattle.closure.specs.OwnRun.{first_shared, middle_from, derivable, derived_step};
+ghost use Rattle.closure.specs.OwnRun.{first_shared, middle_from, derivable, derived_on};
 ghost use Rattle.running.specs.Shown.{Shows, regraphed};
 ghost use Rattle.running.specs.Keys.{searched};
 ghost use Rattle.running.specs.Stepping.{met_of, Choosing, ChoiceOf, number_or, Placing, OnRun, Apart, colouring, Outcome};
@@ -201,7 +201,7 @@ pub fn edge_colour(of_s: u8, of_t: u8) -> Colouring
 // The step by a middle term, from the end that is A-colourable.
 pub fn by_middle(st: State, s: u16, t: u16) -> State
     requires { (run : OnRun st) × T (derivable run.ts run.ls run.reached (pair s t)) × (colouring (get_or st.colours s 0) (get_or st.colours t 0) ≡ Colouring.Middle) }
-    ensures { (run : OnRun st) → T (derivable run.ts run.ls run.reached (pair s t)) → Outcome run.ts run.ls (derived_step run.ts run.ls run.reached (pair s t)) result }
+    ensures { (run : OnRun st) → T (derivable run.ts run.ls run.reached (pair s t)) → Outcome run.ts run.ls (derived_on run.ts run.ls run.reached (pair s t)) result }
 {
     if st.colours[s as usize] % 2 == 1 {
         return middle_step(st, s, t);

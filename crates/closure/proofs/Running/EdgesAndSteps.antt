@@ -16,7 +16,7 @@ use Rattle.tables.specs.declared.Side.TheVariants.{A, B}
 use Rattle.tables.proofs.Words.{by_test, passes, fails, passed, failed}
 use Rattle.tables.proofs.Colours.{SidesWithin}
 use Rattle.closure.specs.Graph.{Edge, basic, derived, Graph, joined}
-use Rattle.closure.specs.Steps.{State, table_of, vertex, with_edge, middle_term, Placed, placed, tied, tied_both, with_middle, Step, basic_step, derived_step_is, middle_step, Run, start, next}
+use Rattle.closure.specs.Steps.{State, table_of, vertex, with_edge, middle_term, Placed, placed, tied, tied_both, with_middle, Step, basic_step, derived_step, middle_step, Run, start, next}
 use Rattle.closure.proofs.Walking.Joined.{joined_sym, joined_trans, joined_more, joined_nothing, joined_cases}
 use Rattle.closure.proofs.Walking.Invariant.{Each}
 use Rattle.closure.proofs.Running.Vertices.{EndsAmong, vertex_within}
@@ -116,7 +116,7 @@ module _ (ts : List Term) (ls : List Literal) where
   pub step_gains : (st : State) {after : State} → SoundState ts ls st → Step ts ls st after → suc (length after.added + length st.graph) ≤ length after.graph + length st.added
   unfolding with_middle
   step_gains st r (basic_step l s t m k h n) = omega arith
-  step_gains st r (derived_step_is s t X vs vt n c e) = omega arith
+  step_gains st r (derived_step s t X vs vt n c e) = omega arith
   step_gains st r (middle_step s t chosen vs vt n c oa ob ch) = middle_gains st r s t vs vt n (middle_term (table_of ts st) s chosen)
 
   -- a run has at least as many edges as it has steps and added terms
@@ -137,14 +137,14 @@ module _ (ts : List Term) (ls : List Literal) where
   pub step_joined : (st : State) {after : State} → Step ts ls st after → (u v : ℕ) → T (joined st.graph u v) → T (joined after.graph u v)
   unfolding with_middle
   step_joined st (basic_step l s t m k h n) u v j = joined_more (record { left = s; right = t; colour = l.side; kind = basic }) st.graph u v j
-  step_joined st (derived_step_is s t X vs vt n c e) u v j = joined_more (record { left = s; right = t; colour = X; kind = derived }) st.graph u v j
+  step_joined st (derived_step s t X vs vt n c e) u v j = joined_more (record { left = s; right = t; colour = X; kind = derived }) st.graph u v j
   step_joined st (middle_step s t chosen vs vt n c oa ob ch) u v j = both_stays (placed ts ls st (middle_term (table_of ts st) s chosen)) s t u v (subst (λ (G : Graph). T (joined G u v)) (sym (placed_graph st (middle_term (table_of ts st) s chosen))) j)
 
   -- a step adds one term at most
   pub step_adds : (st : State) {after : State} → Step ts ls st after → length after.added ≤ suc (length st.added)
   unfolding with_middle tied_both
   step_adds st (basic_step l s t m k h n) = omega arith
-  step_adds st (derived_step_is s t X vs vt n c e) = omega arith
+  step_adds st (derived_step s t X vs vt n c e) = omega arith
   step_adds st (middle_step s t chosen vs vt n c oa ob ch) =
       let m = middle_term (table_of ts st) s chosen in
       let p = placed ts ls st m in

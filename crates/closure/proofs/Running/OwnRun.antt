@@ -16,8 +16,8 @@ use Rattle.tables.specs.Colours.{is_in_use}
 use Rattle.tables.proofs.Words.{by_test, passes, fails, and_left, and_right, and_both, first_of_some, first_of_none, below_or_is, pairs_below_mem, mem_pairs_below}
 use Rattle.tables.proofs.Colours.{SidesWithin, in_use_within}
 use Rattle.closure.specs.Graph.{joined}
-use Rattle.closure.specs.Steps.{State, begin, table_of, vertex, congruent, Step, basic_step, derived_step_is, middle_step, Run, start, next, NoStepLeft}
-use Rattle.closure.specs.OwnRun.{basic_steps, derivable, first_pair, derived_step, turns_at, own_run}
+use Rattle.closure.specs.Steps.{State, begin, table_of, vertex, congruent, Step, basic_step, derived_step, middle_step, Run, start, next, NoStepLeft}
+use Rattle.closure.specs.OwnRun.{basic_steps, derivable, first_pair, derived_on, turns_at, own_run}
 use Rattle.closure.proofs.Walking.Joined.{joined_self, joined_sym, joined_trans}
 use Rattle.closure.proofs.Running.Congruent.{congruent_sym, congruent_trans}
 use Rattle.closure.proofs.Running.States.{in_use_vertex, SoundState, Known}
@@ -48,7 +48,7 @@ turns_some find step k st after p q r =
 
 -- what the turns come to, from a state after j steps with k turns left
 pub record Turned (ts : List Term) (ls : List Literal) (j k : ℕ) (st after : State) : Type 0 where
-  pub found : turns_at (first_pair ts ls) (derived_step ts ls) k st ≡ some after
+  pub found : turns_at (first_pair ts ls) (derived_on ts ls) k st ≡ some after
   pub steps : ℕ
   pub run : Run ts ls steps after
   pub ended : (first_pair ts ls after ≡ none) ⊎ (steps ≡ j + k)
@@ -68,7 +68,7 @@ module _ (ts : List Term) (ls : List Literal) (low : LowerArguments ts) (within 
       (in_use_vertex ts ls low within st s (and_left (is_in_use ts ls s) (is_in_use ts ls t) used), in_use_vertex ts ls low within st t (and_right (is_in_use ts ls s) (is_in_use ts ls t) used), and_right (c && u) (not (joined st.graph s t)) h, and_left c u cu)
 
   -- the derived step on the first pair is a step
-  pub first_pair_step : (st : State) → SoundState ts ls st → (p : Pair) → first_pair ts ls st ≡ some p → (after : State) × (derived_step ts ls st p ≡ some after) × Step ts ls st after
+  pub first_pair_step : (st : State) → SoundState ts ls st → (p : Pair) → first_pair ts ls st ≡ some p → (after : State) × (derived_on ts ls st p ≡ some after) × Step ts ls st after
   unfolding first_pair
   first_pair_step st r p q =
       let w = derivable_parts st p (first_of_some (derivable ts ls st) (pairs_below (length ts)) p q).1 in
@@ -81,12 +81,12 @@ module _ (ts : List Term) (ls : List Literal) (low : LowerArguments ts) (within 
   turns (suc k) j st run = go (first_pair ts ls st) refl (λ i z w. turns k i z w)
     where
       go : (o : Option Pair) → first_pair ts ls st ≡ o → ((i : ℕ) (z : State) → Run ts ls i z → (after : State) × Turned ts ls i k z after) → (after : State) × Turned ts ls j (suc k) st after
-      go none q f = (st, record { found = turns_none (first_pair ts ls) (derived_step ts ls) k st q; steps = j; run = run; ended = inl q; stays = λ u v h. h })
+      go none q f = (st, record { found = turns_none (first_pair ts ls) (derived_on ts ls) k st q; steps = j; run = run; ended = inl q; stays = λ u v h. h })
       go (some p) q f =
           let w = first_pair_step st (run_sound ts ls low within run) p q in
           let z = f (suc j) w.0 (next run w.2) in
           let x = z.1 in
-          (z.0, record { found = turns_some (first_pair ts ls) (derived_step ts ls) k st w.0 p q w.1 ∙ x.found; steps = x.steps; run = x.run; ended = ⊎_elim (λ e. inl e) (λ e. inr (omega (arith, e))) x.ended; stays = λ u v h. x.stays u v (step_joined ts ls st w.2 u v h) })
+          (z.0, record { found = turns_some (first_pair ts ls) (derived_on ts ls) k st w.0 p q w.1 ∙ x.found; steps = x.steps; run = x.run; ended = ⊎_elim (λ e. inl e) (λ e. inr (omega (arith, e))) x.ended; stays = λ u v h. x.stays u v (step_joined ts ls st w.2 u v h) })
 
 -- ---- no step is left
 
@@ -125,7 +125,7 @@ module _ (ts : List Term) (ls : List Literal) (low : LowerArguments ts) (within 
     where
       sides : {x y : ℕ} → l.left ≡ x → l.right ≡ y → T (joined st.graph x y)
       sides p q = subst₂ (λ (x y : ℕ). T (joined st.graph x y)) p q (equalities l m k)
-  no_step_left known equalities after (derived_step_is s t X vs vt n c e) = T_not (joined st.graph s t) n (vertices_joined known s t vs vt c)
+  no_step_left known equalities after (derived_step s t X vs vt n c e) = T_not (joined st.graph s t) n (vertices_joined known s t vs vt c)
   no_step_left known equalities after (middle_step s t chosen vs vt n c oa ob ch) = T_not (joined st.graph s t) n (vertices_joined known s t vs vt c)
 
 -- ---- the whole run

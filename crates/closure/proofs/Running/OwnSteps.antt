@@ -14,8 +14,8 @@ use Rattle.tables.specs.declared.Side.TheVariants.{A, B}
 use Rattle.tables.specs.Colours.{colourable, edge_colourable}
 use Rattle.tables.proofs.Words.{passes, fails, and_left, and_right, and_both}
 use Rattle.closure.specs.Graph.{basic, derived, Graph, joined}
-use Rattle.closure.specs.Steps.{State, table_of, vertex, congruent, with_edge, with_middle, colourable_only, Step, basic_step, derived_step_is, middle_step, Run, next, NoStepLeft}
-use Rattle.closure.specs.OwnRun.{basic_steps, middle_from, derived_step}
+use Rattle.closure.specs.Steps.{State, table_of, vertex, congruent, with_edge, with_middle, colourable_only, Step, basic_step, derived_step, middle_step, Run, next, NoStepLeft}
+use Rattle.closure.specs.OwnRun.{basic_steps, middle_from, derived_on}
 use Rattle.closure.proofs.Walking.Joined.{joined_sym, joined_more, joined_ends}
 use Rattle.closure.proofs.Running.Congruent.{congruent_sym}
 use Rattle.closure.proofs.Running.Vertices.{vertex_within}
@@ -89,7 +89,7 @@ literal_joined l st k =
 -- after all of them the sides of every equality are joined
 pub basic_steps_join : (more : List Literal) (st : State) (l : Literal) → Memᴰ l more → l.kind ≡ equal → T (joined (basic_steps more st).graph l.left l.right)
 unfolding basic_steps
-basic_steps_join [] st x x3 k = elim x3 [ ]
+basic_steps_join [] st x absent k = elim absent [ ]
 basic_steps_join (l ∷ more) st x (Memᴰ.head e) k =
     basic_steps_stay more (after_literal l st) x.left x.right
     (subst (λ (y : Literal). T (joined (after_literal l st).graph y.left y.right)) (sym e) (literal_joined l st (sym (ap (λ (y : Literal). y.kind) e) ∙ k)))
@@ -147,8 +147,8 @@ module _ (ts : List Term) (ls : List Literal) (st : State) (r : SoundState ts ls
       (with_middle ts ls st s t m.0, ap (map (with_middle ts ls st s t)) m.1, middle_step s t m.0 vs vt n c (only_made ts ls A B (table_of ts st) s sa sb) (only_made ts ls B A (table_of ts st) t tb ta) m.2)
 
   -- the derived step that the library takes between unjoined congruent vertices is there, and is a step
-  pub own_step : (s t : ℕ) → T (vertex ts ls st s) → T (vertex ts ls st t) → T (not (joined st.graph s t)) → T (congruent (table_of ts st) st.graph s t) → (after : State) × (derived_step ts ls st (pair s t) ≡ some after) × Step ts ls st after
-  unfolding derived_step
+  pub own_step : (s t : ℕ) → T (vertex ts ls st s) → T (vertex ts ls st t) → T (not (joined st.graph s t)) → T (congruent (table_of ts st) st.graph s t) → (after : State) × (derived_on ts ls st (pair s t) ≡ some after) × Step ts ls st after
+  unfolding derived_on
   own_step s t vs vt n c = as_b (edge_colourable ts ls B table s t) refl
     where
       table : List Term
@@ -180,11 +180,11 @@ module _ (ts : List Term) (ls : List Literal) (st : State) (r : SoundState ts ls
           own_middle t s vt vs (unjoined_sym st.graph s t n) (congruent_sym table st.graph s t c) w.0 w.1 w.2 sa
 
       as_a : (b : Bool) → edge_colourable ts ls A table s t ≡ b → T (not (edge_colourable ts ls B table s t)) → Taken (or_a b)
-      as_a true q nb = (with_edge st s t A derived, refl, derived_step_is s t A vs vt n c (passes (edge_colourable ts ls A table s t) q))
+      as_a true q nb = (with_edge st s t A derived, refl, derived_step s t A vs vt n c (passes (edge_colourable ts ls A table s t) q))
       as_a false q nb = middle (colourable ts ls A table s) refl nb (fails (edge_colourable ts ls A table s t) q)
 
       as_b : (b : Bool) → edge_colourable ts ls B table s t ≡ b → Taken (cond b (edge B) (or_a (edge_colourable ts ls A table s t)))
-      as_b true q = (with_edge st s t B derived, refl, derived_step_is s t B vs vt n c (passes (edge_colourable ts ls B table s t) q))
+      as_b true q = (with_edge st s t B derived, refl, derived_step s t B vs vt n c (passes (edge_colourable ts ls B table s t) q))
       as_b false q = as_a (edge_colourable ts ls A table s t) refl (fails (edge_colourable ts ls B table s t) q)
 
   -- so where no step is left, congruent vertices are joined

@@ -14,7 +14,7 @@ use Rattle.tables.specs.Colours.{colourable}
 use Rattle.tables.proofs.Words.{and_left}
 use Rattle.tables.proofs.Colours.{SidesWithin}
 use Rattle.closure.specs.Graph.{EdgeKind, basic, derived}
-use Rattle.closure.specs.Steps.{State, begin, table_of, vertex, congruent, with_edge, middle_term, placed, tied, tied_both, with_middle, colourable_only, Chosen, Step, basic_step, derived_step_is, middle_step, Run, start, next}
+use Rattle.closure.specs.Steps.{State, begin, table_of, vertex, congruent, with_edge, middle_term, placed, tied, tied_both, with_middle, colourable_only, Chosen, Step, basic_step, derived_step, middle_step, Run, start, next}
 use Rattle.closure.proofs.Running.States.{SoundState, Known, Ties, ties_sound, known_edge, known_through, tied_either, tied_joined, begin_vertex, begin_sound, given_known, basic_sound}
 use Rattle.closure.proofs.Running.MiddleStep.{with_term_cases, with_term_known, placed_either, MiddleEnds, tied_ties, middle_ready, middle_sound}
 
@@ -53,7 +53,7 @@ module _ (ts : List Term) (ls : List Literal) (low : LowerArguments ts) (within 
   -- a state stays sound under every step
   pub step_sound : (st : State) {after : State} → SoundState ts ls st → Step ts ls st after → SoundState ts ls after
   step_sound st r (basic_step l s t m k h n) = basic_sound ts ls low within st r l s t m k h n
-  step_sound st r (derived_step_is s t X vs vt n c e) = ties_sound ts ls st r X s t (record { left_vertex = vs; right_vertex = vt; alike = c; colours = e }) n
+  step_sound st r (derived_step s t X vs vt n c e) = ties_sound ts ls st r X s t (record { left_vertex = vs; right_vertex = vt; alike = c; colours = e }) n
   step_sound st r (middle_step s t chosen vs vt n c oa ob ch) = middle_sound ts ls st r s t chosen (middle_ends ts ls st s t chosen vs vt c oa ob ch)
 
   -- every state of a run is sound
@@ -83,7 +83,7 @@ module _ (ts : List Term) (ls : List Literal) (low : LowerArguments ts) (within 
   pub step_known : (st : State) {after : State} → SoundState ts ls st → ((v : ℕ) → T (vertex ts ls st v) → Known ts ls st v) → Step ts ls st after → (v : ℕ) → T (vertex ts ls after v) → Known ts ls after v
   unfolding vertex
   step_known st r f (basic_step l s t m k h n) v w = known_edge ts ls st v (f v w) s t l.side basic
-  step_known st r f (derived_step_is s t X vs vt n c e) v w = known_edge ts ls st v (f v w) s t X derived
+  step_known st r f (derived_step s t X vs vt n c e) v w = known_edge ts ls st v (f v w) s t X derived
   step_known st r f (middle_step s t chosen vs vt n c oa ob ch) v w = middle_known st r f s t chosen (middle_ends ts ls st s t chosen vs vt c oa ob ch) v w
 
   -- in every state of a run, a given term in use stands for each vertex

@@ -36,7 +36,7 @@ keep_same p q (x ∷ xs) f =
 -- one member passes the first test alone, and on every other the two agree: the first keeps one member more
 keep_one_less : (p q : ℕ → Bool) {xs : List ℕ} {r : ℕ} → Once xs → Memᴰ r xs → T (p r) → T (not (q r)) → ((x : ℕ) → (x ≡ r → ⊥) → p x ≡ q x) → length (keep p xs) ≡ suc (length (keep q xs))
 unfolding keep
-keep_one_less p q {r = r} nothing x9 a b same = elim x9 [ ]
+keep_one_less p q nothing absent a b same = elim absent [ ]
 keep_one_less p q {xs} {r} (new {x = x} {xs = ys} f o) (Memᴰ.head e) a b same =
     ap (λ (c : Bool). length (cond c (x ∷ keep p ys) (keep p ys))) (passed (p x) (subst (λ (z : ℕ). T (p z)) e a)) ∙
     ap (λ (l : List ℕ). suc (length l)) (keep_same p q ys (λ y m. same y (λ d. f (Memᴰ.cast (sym e ∙ sym d) m)))) ∙

@@ -68,7 +68,7 @@ walk_more (hop k q w) = hop (earlier k) q (walk_more w)
 
 -- every hop of a walk is one of the graph
 pub walk_hop : {G : Graph} {u v : ℕ} {π : Path} {h : Hop} → Walk G u v π → Memᴰ h π → HopOf h G
-walk_hop {G = G} {h = h} (stay {u = u} {v = v} _) x6 = elim x6 [ ]
+walk_hop (stay q) absent = elim absent [ ]
 walk_hop {G} (hop k q w) (Memᴰ.head e) = subst (λ (g : Hop). HopOf g G) (sym e) k
 walk_hop (hop k q w) (Memᴰ.tail m) = walk_hop w m
 

@@ -33,7 +33,7 @@ table_bytes bs fits = small_bytes bs (λ i. omega (arith, fits i))
 
 -- what comes back is that of the definition, and the tables are bytes
 called : {terms literals : List ℕ} {bs : Buffers} {r : Returned} → AllBytes terms × AllBytes literals → r ≡ judged terms literals bs → Called terms literals bs r
-called known e = record { returned = e; term_bytes_is = known.0; literal_bytes = known.1 }
+called known e = record { returned = e; terms_are_bytes = known.0; literals_are_bytes = known.1 }
 
 -- what is read where the check is sound
 abbrev from_read : (terms literals : List ℕ) (t : Tables) → t ≡ tables_read terms literals → t.check ≡ Sound → ReadFrom t

@@ -12,6 +12,6 @@ pub returns : goal.returns
 returns c = let s = c.split-answer in
     record {
       returned = numbers_told c.told.ensures s.ensures.returned;
-      term_bytes_is = s.ensures.term_bytes_is;
-      literal_bytes = s.ensures.literal_bytes;
+      terms_are_bytes = s.ensures.terms_are_bytes;
+      literals_are_bytes = s.ensures.literals_are_bytes;
     }

@@ -12,35 +12,35 @@ use Rattle.reading.proofs.arrays.sound.Goals as goal
 abbrev known :
     (ts ls : List ℕ) →
     checked ts ls ≡ Sound →
-    (symbols arities : List ℕ) (rows : List (List ℕ)) →
+    {symbols arities : List ℕ} {rows : List (List ℕ)} →
     symbols ≡ symbol_column ts →
     arities ≡ arity_column ts →
     rows ≡ argument_rows ts →
     Columns
-known ts ls h symbols arities rows s a r =
+known ts ls h {symbols} {arities} {rows} s a r =
     record { bs = ts; ls = ls; symbols = symbols; arities = arities; rows = rows; tables = sound ts ls h; symbols_read = s; arities_read = a; rows_read = r }
 
 pub inside-a-requires : goal.inside-a-requires
-inside-a-requires c = let k = known c.args.terms.now c.args.literals.now c.requires c.term_words-symbols.result c.term_bytes-arities.result c.rows-rows.result c.term_words-symbols.ensures c.term_bytes-arities.ensures c.rows-rows.ensures in record { lower_rows = columns_lower k; literals_within = literals_within k.bs k.ls k.tables }
+inside-a-requires c = let k = known c.args.terms.now c.args.literals.now c.requires c.term_words-symbols.ensures c.term_bytes-arities.ensures c.rows-rows.ensures in record { lower_rows = columns_lower k; literals_within = literals_within k.bs k.ls k.tables }
 
 pub inside-b-requires : goal.inside-b-requires
-inside-b-requires c = let k = known c.args.terms.now c.args.literals.now c.requires c.term_words-symbols.result c.term_bytes-arities.result c.rows-rows.result c.term_words-symbols.ensures c.term_bytes-arities.ensures c.rows-rows.ensures in record { lower_rows = columns_lower k; literals_within = literals_within k.bs k.ls k.tables }
+inside-b-requires c = let k = known c.args.terms.now c.args.literals.now c.requires c.term_words-symbols.ensures c.term_bytes-arities.ensures c.rows-rows.ensures in record { lower_rows = columns_lower k; literals_within = literals_within k.bs k.ls k.tables }
 
 pub in_use-used-requires : goal.in_use-used-requires
-in_use-used-requires c = (known c.args.terms.now c.args.literals.now c.requires c.term_words-symbols.result c.term_bytes-arities.result c.rows-rows.result c.term_words-symbols.ensures c.term_bytes-arities.ensures c.rows-rows.ensures).tables.terms_fit
+in_use-used-requires c = (known c.args.terms.now c.args.literals.now c.requires c.term_words-symbols.ensures c.term_bytes-arities.ensures c.rows-rows.ensures).tables.terms_fit
 
 pub occurring-in_a-requires : goal.occurring-in_a-requires
-occurring-in_a-requires c = (known c.args.terms.now c.args.literals.now c.requires c.term_words-symbols.result c.term_bytes-arities.result c.rows-rows.result c.term_words-symbols.ensures c.term_bytes-arities.ensures c.rows-rows.ensures).tables.terms_fit
+occurring-in_a-requires c = (known c.args.terms.now c.args.literals.now c.requires c.term_words-symbols.ensures c.term_bytes-arities.ensures c.rows-rows.ensures).tables.terms_fit
 
 pub occurring-in_b-requires : goal.occurring-in_b-requires
-occurring-in_b-requires c = (known c.args.terms.now c.args.literals.now c.requires c.term_words-symbols.result c.term_bytes-arities.result c.rows-rows.result c.term_words-symbols.ensures c.term_bytes-arities.ensures c.rows-rows.ensures).tables.terms_fit
+occurring-in_b-requires c = (known c.args.terms.now c.args.literals.now c.requires c.term_words-symbols.ensures c.term_bytes-arities.ensures c.rows-rows.ensures).tables.terms_fit
 
 pub colours-colours-requires : goal.colours-colours-requires
-colours-colours-requires c = let k = known c.args.terms.now c.args.literals.now c.requires c.term_words-symbols.result c.term_bytes-arities.result c.rows-rows.result c.term_words-symbols.ensures c.term_bytes-arities.ensures c.rows-rows.ensures in record { lower_rows = columns_lower k; terms_bound = k.tables.terms_fit }
+colours-colours-requires c = let k = known c.args.terms.now c.args.literals.now c.requires c.term_words-symbols.ensures c.term_bytes-arities.ensures c.rows-rows.ensures in record { lower_rows = columns_lower k; terms_bound = k.tables.terms_fit }
 
 pub returns : goal.returns
 unfolding sound_tables
-returns c = let k = known c.args.terms.now c.args.literals.now c.requires c.term_words-symbols.result c.term_bytes-arities.result c.rows-rows.result c.term_words-symbols.ensures c.term_bytes-arities.ensures c.rows-rows.ensures in
+returns c = let k = known c.args.terms.now c.args.literals.now c.requires c.term_words-symbols.ensures c.term_bytes-arities.ensures c.rows-rows.ensures in
     let a = c.inside-a in
     let b = c.inside-b in
     let in_use = c.in_use-used in

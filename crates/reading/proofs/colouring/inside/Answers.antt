@@ -1,40 +1,33 @@
 -- `inside` meets its contract: the loop keeps that the literals passed are marked, with all their parts, and nothing else.
 use mathlib.Core.Bool.{Bool}
 use mathlib.Core.List.{List}
-use Prim.Native.Nat.{◌+◌, ◌<◌}
-use mathlib.Core.Path.{◌≡◌, sym, ap, subst, ◌∙◌}
+use Prim.Native.Nat.{◌+◌}
+use mathlib.Core.Path.{◌≡◌, sym, subst, ◌∙◌}
 use native.Mathlib.Omega.{arith}
 use Rattle.tables.specs.LiteralTable.{literal_count}
-use Rattle.std.proofs.Common.{ℕ}
-use Rattle.tables.specs.LiteralTable.{literal_record}
-use Rattle.reading.specs.Fields.{fields_of}
-use Rattle.reading.specs.Marks.{Inside, LiteralsWithin}
-use Rattle.reading.specs.declared.literal.Fields.{Fields}
+use Rattle.reading.specs.Marks.{Inside}
 use Rattle.reading.proofs.Marks.{inside_none, inside_more, inside_same}
+use Rattle.reading.proofs.Sides.{sides_below}
 use Rattle.reading.proofs.colouring.inside.Goals as goal
 use Rattle.reading.proofs.colouring.inside.Goals.{then-l-side, else-l-side}
-
--- the sides that were read are term numbers
-small : (ls : List ℕ) → LiteralsWithin ls → (k : ℕ) → k < literal_count ls → (l : Fields) → l ≡ fields_of (literal_record ls k) → (l.left < 256) × (l.right < 256)
-small ls within k h l e = (omega (arith, ap (λ (f : Fields). f.left) e, within.left k h), omega (arith, ap (λ (f : Fields). f.right) e, within.right k h))
 
 pub loop-k-init : goal.loop-k-init
 loop-k-init c = let a = c.args in (omega arith, inside_none a.rows.now a.arities.now a.literals.now a.side)
 
 pub overflow_cast-l : goal.overflow_cast-l
-overflow_cast-l c = omega (arith, (small c.args.literals.now c.requires.literals_within c.loop-k.k c.loop-k-test.true c.read_at-l.result c.read_at-l.ensures).0)
+overflow_cast-l c = omega (arith, (sides_below c.args.literals.now c.loop-k.k 256 c.read_at-l.ensures (c.requires.literals_within.left c.loop-k.k c.loop-k-test.true) (c.requires.literals_within.right c.loop-k.k c.loop-k-test.true)).0)
 
 pub mark-requires : goal.mark-requires
 mark-requires c = let i = c.loop-k.invariant.1 in
-    record { within = (small c.args.literals.now c.requires.literals_within c.loop-k.k c.loop-k-test.true c.read_at-l.result c.read_at-l.ensures).0; sized = i.sized; low = c.requires.lower_rows; closed = i.closed }
+    record { within = (sides_below c.args.literals.now c.loop-k.k 256 c.read_at-l.ensures (c.requires.literals_within.left c.loop-k.k c.loop-k-test.true) (c.requires.literals_within.right c.loop-k.k c.loop-k-test.true)).0; sized = i.sized; low = c.requires.lower_rows; closed = i.closed }
 
 pub overflow_cast-l-then-l-side : goal.overflow_cast-l-then-l-side
-overflow_cast-l-then-l-side c = omega (arith, (small c.args.literals.now c.requires.literals_within c.loop-k.k c.loop-k-test.true c.read_at-l.result c.read_at-l.ensures).1)
+overflow_cast-l-then-l-side c = omega (arith, (sides_below c.args.literals.now c.loop-k.k 256 c.read_at-l.ensures (c.requires.literals_within.left c.loop-k.k c.loop-k-test.true) (c.requires.literals_within.right c.loop-k.k c.loop-k-test.true)).1)
 
 pub mark-requires-then-l-side : goal.mark-requires-then-l-side
 mark-requires-then-l-side c = let i = c.loop-k.invariant.1 in
     let m = c.mark.ensures in
-    record { within = (small c.args.literals.now c.requires.literals_within c.loop-k.k c.loop-k-test.true c.read_at-l.result c.read_at-l.ensures).1; sized = m.sized ∙ i.sized; low = c.requires.lower_rows; closed = m.closed }
+    record { within = (sides_below c.args.literals.now c.loop-k.k 256 c.read_at-l.ensures (c.requires.literals_within.left c.loop-k.k c.loop-k-test.true) (c.requires.literals_within.right c.loop-k.k c.loop-k-test.true)).1; sized = m.sized ∙ i.sized; low = c.requires.lower_rows; closed = m.closed }
 
 pub loop-k-preserved : goal.loop-k-preserved
 loop-k-preserved c = let a = c.args in

@@ -1,53 +1,43 @@
 -- `running::run::basic_steps` meets its contract. The invariant: the arrays show the state after the records passed. The measure is what is left of them.
 use mathlib.Core.List.{List}
-use mathlib.Core.Path.{◌≡◌, sym, ap, ap₂, subst}
-use Prim.Native.Nat.{ℕ, ◌+◌, ◌<◌}
+use mathlib.Core.Path.{sym, ap₂, subst}
+use Prim.Native.Nat.{ℕ, ◌+◌}
 use native.Mathlib.Omega.{arith}
-use Rattle.tables.specs.Checks.{checked}
 use Rattle.tables.specs.TermTable.{terms_of}
-use Rattle.tables.specs.LiteralTable.{literal_count, literal_record, literals_of}
-use Rattle.reading.specs.Fields.{fields_of}
-use Rattle.tables.specs.declared.Check.TheVariants.{Sound}
-use Rattle.reading.specs.declared.literal.Fields.{Fields}
+use Rattle.tables.specs.LiteralTable.{literals_of}
 use Rattle.graphs.specs.declared.graph.Graph.{Graph as Kept}
 use Rattle.running.specs.Shown.{regraphed}
 use Rattle.running.specs.declared.state.State.{State as Arrays}
 use Rattle.running.proofs.Showing.{shown_length}
-use Rattle.running.proofs.BasicSteps.{ShowsAfter, sides_small, after_none, after_all, after_edges, turn_taken, turn_left}
+use Rattle.running.proofs.BasicSteps.{ShowsAfter, sides_read, after_none, after_all, after_edges, turn_taken, turn_left}
 use Rattle.running.proofs.run.basic_steps.Goals as goal
 use Rattle.running.proofs.run.basic_steps.Goals.{then-l-labels, else-l-labels}
-
--- the sides of a literal that was read are term numbers
-small : (bs ls : List ℕ) → checked bs ls ≡ Sound → (i : ℕ) → i < literal_count ls → (l : Fields) → l ≡ fields_of (literal_record ls i) → (l.left < 256) × (l.right < 256)
-small bs ls h i more l e =
-    let sides = sides_small bs ls h i more in
-    (omega (arith, ap (λ (f : Fields). f.left) e, sides.0), omega (arith, ap (λ (f : Fields). f.right) e, sides.1))
 
 pub loop-i-init : goal.loop-i-init
 loop-i-init c = (omega arith, λ bs passed s h. after_none _ _ passed _ h)
 
 pub overflow_cast-left : goal.overflow_cast-left
-overflow_cast-left c = omega (arith, (small c.requires.0 c.args.literals.now c.requires.1 c.loop-i.i c.loop-i-test.true c.read_at-l.result c.read_at-l.ensures).0)
+overflow_cast-left c = omega (arith, (sides_read c.requires.0 c.args.literals.now c.requires.1 c.loop-i.i c.loop-i-test.true c.read_at-l.ensures).0)
 
 pub overflow_cast-right : goal.overflow_cast-right
-overflow_cast-right c = omega (arith, (small c.requires.0 c.args.literals.now c.requires.1 c.loop-i.i c.loop-i-test.true c.read_at-l.result c.read_at-l.ensures).1)
+overflow_cast-right c = omega (arith, (sides_read c.requires.0 c.args.literals.now c.requires.1 c.loop-i.i c.loop-i-test.true c.read_at-l.ensures).1)
 
 pub offset_bounds-labels-left : goal.offset_bounds-labels-left
-offset_bounds-labels-left c = omega (arith, (small c.requires.0 c.args.literals.now c.requires.1 c.loop-i.i c.loop-i-test.true c.read_at-l.result c.read_at-l.ensures).0)
+offset_bounds-labels-left c = omega (arith, (sides_read c.requires.0 c.args.literals.now c.requires.1 c.loop-i.i c.loop-i-test.true c.read_at-l.ensures).0)
 
 pub bounds-labels-left : goal.bounds-labels-left
-bounds-labels-left c = omega (arith, (small c.requires.0 c.args.literals.now c.requires.1 c.loop-i.i c.loop-i-test.true c.read_at-l.result c.read_at-l.ensures).0)
+bounds-labels-left c = omega (arith, (sides_read c.requires.0 c.args.literals.now c.requires.1 c.loop-i.i c.loop-i-test.true c.read_at-l.ensures).0)
 
 pub offset_bounds-labels-right : goal.offset_bounds-labels-right
-offset_bounds-labels-right c = omega (arith, (small c.requires.0 c.args.literals.now c.requires.1 c.loop-i.i c.loop-i-test.true c.read_at-l.result c.read_at-l.ensures).1)
+offset_bounds-labels-right c = omega (arith, (sides_read c.requires.0 c.args.literals.now c.requires.1 c.loop-i.i c.loop-i-test.true c.read_at-l.ensures).1)
 
 pub bounds-labels-right : goal.bounds-labels-right
-bounds-labels-right c = omega (arith, (small c.requires.0 c.args.literals.now c.requires.1 c.loop-i.i c.loop-i-test.true c.read_at-l.result c.read_at-l.ensures).1)
+bounds-labels-right c = omega (arith, (sides_read c.requires.0 c.args.literals.now c.requires.1 c.loop-i.i c.loop-i-test.true c.read_at-l.ensures).1)
 
 pub joined_on-grown-requires : goal.joined_on-grown-requires
 joined_on-grown-requires c = let pre = c.requires in
     let shows = c.loop-i.invariant.1 pre.0 pre.1 pre.2 pre.3 in
-    let sides = (small c.requires.0 c.args.literals.now c.requires.1 c.loop-i.i c.loop-i-test.true c.read_at-l.result c.read_at-l.ensures) in
+    let sides = sides_read pre.0 c.args.literals.now pre.1 c.loop-i.i c.loop-i-test.true c.read_at-l.ensures in
     (shown_length (terms_of pre.0) (literals_of _) _ _ shows, omega (arith, sides.0), omega (arith, sides.1), omega (arith, after_edges _ _ pre.1 c.loop-i.i _ shows c.loop-i-test.true))
 
 pub loop-i-preserved : goal.loop-i-preserved
