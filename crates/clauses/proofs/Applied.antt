@@ -3,7 +3,7 @@ use mathlib.Core.List.{List, [], ◌∷◌, ◌++◌}
 use mathlib.Core.Path.{◌≡◌, refl}
 use lib.ListN.{length}
 use Rattle.tables.specs.Words.{pair}
-use Rattle.tables.specs.LiteralTable.{Literal}
+use Rattle.tables.specs.declared.Literal.{Literal}
 use Rattle.tables.specs.declared.Side.TheVariants.{A, B}
 use Rattle.closure.specs.Graph.{Path, path}
 use Rattle.closure.proofs.Applied.{equality, disequality, late_terms, late_equalities, late_graph, late_onward, first_of_a, only_of_b, late_path, path_of_a, path_of_b, path_of_b_before, late_parents, basic_parents}

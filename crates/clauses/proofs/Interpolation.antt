@@ -10,7 +10,9 @@ use lib.ListN.{length}
 use Rattle.tables.specs.Words.{Pair}
 use Rattle.tables.specs.Terms.{Term}
 use Rattle.tables.specs.Parts.{LowerArguments, itself}
-use Rattle.tables.specs.LiteralTable.{Kind, equal, different, Literal}
+use Rattle.tables.specs.declared.Literal.{Literal}
+use Rattle.tables.specs.declared.Kind.{Kind}
+use Rattle.tables.specs.declared.Kind.TheVariants.{Equal, Different}
 use Rattle.tables.specs.declared.Side.{Side}
 use Rattle.tables.specs.declared.Side.TheVariants.{A, B}
 use Rattle.tables.specs.Colours.{colourable}
@@ -191,14 +193,14 @@ module _ (ts more : List Term) (ls : List Literal) (low : LowerArguments (ts ++ 
   pub satisfies_keeps : (I : Interpretation) (X : Side) → Satisfies I ts ls X → Keeps ts ls (ts ++ more) low I X
   unfolding Holds HoldsAs
   satisfies_keeps I X holds l m k e =
-      let q : HoldsAs I ts equal l.left l.right = subst (λ (K : Kind). HoldsAs I ts K l.left l.right) k (holds l m e) in
+      let q : HoldsAs I ts Equal l.left l.right = subst (λ (K : Kind). HoldsAs I ts K l.left l.right) k (holds l m e) in
       value_append I ts more (lower_append ts more low) l.left (within l m).0 ∙ q ∙ sym (value_append I ts more (lower_append ts more low) l.right (within l m).1)
 
   -- and both sides of its disequalities different values
-  pub satisfies_breaks : (I : Interpretation) (l : Literal) → Satisfies I ts ls l.side → Memᴰ l ls → l.kind ≡ different → value I (ts ++ more) l.left ≡ value I (ts ++ more) l.right → ⊥
+  pub satisfies_breaks : (I : Interpretation) (l : Literal) → Satisfies I ts ls l.side → Memᴰ l ls → l.kind ≡ Different → value I (ts ++ more) l.left ≡ value I (ts ++ more) l.right → ⊥
   unfolding Holds HoldsAs
   satisfies_breaks I l holds m k e =
-      let n : HoldsAs I ts different l.left l.right = subst (λ (K : Kind). HoldsAs I ts K l.left l.right) k (holds l m refl) in
+      let n : HoldsAs I ts Different l.left l.right = subst (λ (K : Kind). HoldsAs I ts K l.left l.right) k (holds l m refl) in
       n (sym (value_append I ts more (lower_append ts more low) l.left (within l m).0) ∙ e ∙ value_append I ts more (lower_append ts more low) l.right (within l m).1)
 
   -- the sides of a literal are colourable in its own side
@@ -209,7 +211,7 @@ module _ (ts more : List Term) (ls : List Literal) (low : LowerArguments (ts ++ 
       (subst T (sym (colourable_append ts ls X ts more lows l.left (within l m).0)) (part_colourable ts ls lows within X l m refl l.left (inl itself)), subst T (sym (colourable_append ts ls X ts more lows l.right (within l m).1)) (part_colourable ts ls lows within X l m refl l.right (inr itself)))
 
   -- a disequality between joined sides, in a graph as the steps make it
-  module _ (G : Graph) (sound : SoundGraph ts ls (ts ++ more) G) (l : Literal) (stands : Memᴰ l ls) (differ : l.kind ≡ different) (meet : T (joined G l.left l.right)) where
+  module _ (G : Graph) (sound : SoundGraph ts ls (ts ++ more) G) (l : Literal) (stands : Memᴰ l ls) (differ : l.kind ≡ Different) (meet : T (joined G l.left l.right)) where
     -- the path between its sides
     between_sides_walk : Walk G l.left l.right (path G l.left l.right)
     between_sides_walk = path_walk G l.left l.right meet

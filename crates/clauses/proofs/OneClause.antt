@@ -12,7 +12,8 @@ use lib.ListN.{length}
 use Rattle.tables.specs.Words.{Pair}
 use Rattle.tables.specs.Terms.{Term}
 use Rattle.tables.specs.Parts.{LowerArguments}
-use Rattle.tables.specs.LiteralTable.{different, Literal}
+use Rattle.tables.specs.declared.Literal.{Literal}
+use Rattle.tables.specs.declared.Kind.TheVariants.{Different}
 use Rattle.tables.specs.declared.Side.{Side}
 use Rattle.tables.specs.declared.Side.TheVariants.{A, B}
 use Rattle.tables.specs.Colours.{colourable}
@@ -302,7 +303,7 @@ written_said n cs rest fits one c m =
 pub said_written : (n : ℕ) (cs : List Clause) (rest : List ℕ) → n ≤ 65536 → OneEach n cs → (c : Clause) → Memᴰ c cs → Memᴰ (clause_in_order n c) (written_clauses n cs rest)
 said_written n cs rest fits one c m = subst (λ (ds : List Clause). Memᴰ (clause_in_order n c) ds) (sym (read_back_bytes n cs rest fits (λ d k h. (one.within d k).conclusion_within))) (all_standing n cs one c m)
 
-module _ (ts more : List Term) (ls : List Literal) (low : LowerArguments (ts ++ more)) (within : SidesWithin ts ls) (G : Graph) (sound : SoundGraph ts ls (ts ++ more) G) (l : Literal) (stands : Memᴰ l ls) (differ : l.kind ≡ different) (meet : T (joined G l.left l.right)) where
+module _ (ts more : List Term) (ls : List Literal) (low : LowerArguments (ts ++ more)) (within : SidesWithin ts ls) (G : Graph) (sound : SoundGraph ts ls (ts ++ more) G) (l : Literal) (stands : Memᴰ l ls) (differ : l.kind ≡ Different) (meet : T (joined G l.left l.right)) where
   -- all clauses of the summary but the last come from paths of the graph
   pub summary_from_paths : FromPaths (ts ++ more) G (summary ts ls (ts ++ more) G l)
   unfolding summary

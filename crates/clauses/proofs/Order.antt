@@ -9,7 +9,7 @@ use native.Mathlib.Omega.{arith}
 use lib.Dec.{T, ltb, ltb→lt, nltb→le}
 use Rattle.tables.specs.Words.{below, keep, Pair, pair, same_pair, pairs_below}
 use Rattle.tables.specs.Terms.{Term}
-use Rattle.tables.specs.LiteralTable.{Literal}
+use Rattle.tables.specs.declared.Literal.{Literal}
 use Rattle.tables.specs.Interpretations.{Interpretation, value}
 use Rattle.tables.proofs.Words.{any_some, some_any, keep_mem, mem_keep, flat_map_mem, mem_flat_map, below_mem, same_pair_eq, same_pair_self, pairs_below_mem, mem_pairs_below, by_test, passes, fails}
 use Rattle.clauses.specs.Clauses.{between, Clause, Conclusion, equals, differs, falsum}

@@ -8,7 +8,8 @@ use Prim.Native.Nat.{ℕ}
 use lib.Dec.{T}
 use Rattle.tables.specs.Words.{Pair, pair, same_pair, any, keep, pairs_below}
 use Rattle.tables.specs.Terms.{Term}
-use Rattle.tables.specs.LiteralTable.{Literal, same_side}
+use Rattle.tables.specs.LiteralTable.{same_side}
+use Rattle.tables.specs.declared.Literal.{Literal}
 use Rattle.tables.specs.declared.Side.TheVariants.{A, B}
 use Rattle.tables.specs.Colours.{colourable}
 use Rattle.tables.proofs.Words.{passes, some_any, any_some, same_pair_eq, same_pair_self}

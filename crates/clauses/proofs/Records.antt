@@ -10,7 +10,7 @@ use borrow.Author.Tests.{eq-eqb, ne_eqb}
 use Rattle.tables.specs.Words.{below, Pair, pair}
 use Rattle.tables.specs.Bytes.{byte_at, word_at, word_bytes, record_at, AllBytes}
 use Rattle.tables.specs.Terms.{Term}
-use Rattle.tables.specs.LiteralTable.{Literal}
+use Rattle.tables.specs.declared.Literal.{Literal}
 use Rattle.tables.specs.Interpretations.{Interpretation}
 use Rattle.tables.proofs.Words.{flat_map_mem}
 use Rattle.tables.proofs.WordBytes.{word_value, bytes_none, bytes_cons, bytes_append, bytes_flat_map, word_bytes_bytes, records_read, records_length}

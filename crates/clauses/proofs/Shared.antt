@@ -7,7 +7,7 @@ use lib.Dec.{T}
 use Rattle.tables.specs.Words.{Pair}
 use Rattle.tables.specs.Terms.{Term}
 use Rattle.tables.specs.Parts.{LowerArguments}
-use Rattle.tables.specs.LiteralTable.{Literal}
+use Rattle.tables.specs.declared.Literal.{Literal}
 use Rattle.tables.specs.declared.Side.{Side}
 use Rattle.tables.specs.declared.Side.TheVariants.{A, B}
 use Rattle.tables.specs.Colours.{colourable}

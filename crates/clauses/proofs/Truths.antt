@@ -9,7 +9,8 @@ use lib.ListN.{length}
 use Rattle.tables.specs.Words.{Pair}
 use Rattle.tables.specs.Terms.{Term, term_at}
 use Rattle.tables.specs.Parts.{LowerArguments}
-use Rattle.tables.specs.LiteralTable.{Literal, equal}
+use Rattle.tables.specs.declared.Literal.{Literal}
+use Rattle.tables.specs.declared.Kind.TheVariants.{Equal}
 use Rattle.tables.specs.declared.Side.{Side}
 use Rattle.tables.specs.declared.Side.TheVariants.{A, B}
 use Rattle.tables.specs.Interpretations.{Interpretation, value}
@@ -88,7 +89,7 @@ module _ (ts : List Term) (ls : List Literal) (table : List Term) where
 module _ (ts : List Term) (ls : List Literal) (table : List Term) (low : LowerArguments table) (I : Interpretation) where
   -- both sides of each equality record of side X have one value
   abbrev pub Keeps : Side → Type 0
-  Keeps X = (l : Literal) → Memᴰ l ls → l.kind ≡ equal → l.side ≡ X → value I table l.left ≡ value I table l.right
+  Keeps X = (l : Literal) → Memᴰ l ls → l.kind ≡ Equal → l.side ≡ X → value I table l.left ≡ value I table l.right
 
   -- the same symbol over the same values gives the same value
   value_follows : (s t : ℕ) → s < length table → t < length table → (term_at table s).symbol ≡ (term_at table t).symbol → map (value I table) (term_at table s).arguments ≡ map (value I table) (term_at table t).arguments → value I table s ≡ value I table t

@@ -1,10 +1,11 @@
 -- 01, "Reading the clauses": the critical disequality, and the summary read off the path between its sides.
-use Rattle.std.specs.Prelude.{Bool, cond, not, ◌&&◌, ℕ, length, get_or}
+use Rattle.std.specs.Prelude.{Bool, cond, not, ◌&&◌, ℕ, length, get_or, Option}
 use mathlib.Core.List.{List, [], ◌∷◌, ◌++◌, flat_map}
-use Rattle.std.proofs.Math.Option.{Option}
 use Rattle.tables.specs.Words.{Pair, any, first_below}
 use Rattle.tables.specs.Terms.{Term}
-use Rattle.tables.specs.LiteralTable.{Literal, equal, is_equal}
+use Rattle.tables.specs.LiteralTable.{is_equal}
+use Rattle.tables.specs.declared.Literal.{Literal}
+use Rattle.tables.specs.declared.Kind.TheVariants.{Equal}
 use Rattle.tables.specs.declared.Side.{Side}
 use Rattle.tables.specs.declared.Side.TheVariants.{A, B}
 use Rattle.tables.specs.Colours.{colourable}
@@ -14,7 +15,7 @@ use Rattle.clauses.specs.Premises.{premises, path_clauses}
 
 -- the literal of a number
 abbrev pub literal_at : List Literal → ℕ → Literal
-literal_at ls i = get_or ls i (record { side = A; kind = equal; left = 0; right = 0 })
+literal_at ls i = get_or ls i (record { side = A; kind = Equal; left = 0; right = 0 })
 
 -- "The critical disequality is the lowest record of kind 2 whose sides are joined when no step is left. None: consistent."
 unfoldable pub contradicted : List Literal → Graph → ℕ → Bool

@@ -3,7 +3,7 @@ use mathlib.Core.List.{List, Memᴰ}
 use Rattle.std.specs.Prelude.{◌≡◌, ℕ, T}
 use Rattle.tables.specs.Words.{Pair}
 use Rattle.tables.specs.Terms.{Term, symbols}
-use Rattle.tables.specs.LiteralTable.{Literal}
+use Rattle.tables.specs.declared.Literal.{Literal}
 use Rattle.tables.specs.declared.Side.TheVariants.{A, B}
 use Rattle.tables.specs.Colours.{occurs_in}
 use Rattle.tables.specs.Interpretations.{Interpretation, value, Satisfies}

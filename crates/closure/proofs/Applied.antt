@@ -1,12 +1,13 @@
 -- LATE, computed. Each theorem is a sentence of 01 on its graph, and fails where a definition says something else. They are also the laws by which
 -- the clause layer's examples compute, which opens nothing of the graph.
+use Rattle.std.proofs.Common.{Some}
 use mathlib.Core.Bool.{true, false}
 use mathlib.Core.List.{List, [], ◌∷◌}
-use mathlib.Core.Option.{some}
 use mathlib.Core.Path.{◌≡◌, refl}
 use Prim.Native.Nat.{ℕ}
 use Rattle.tables.specs.Terms.{Term}
-use Rattle.tables.specs.LiteralTable.{Literal, equal, different}
+use Rattle.tables.specs.declared.Literal.{Literal}
+use Rattle.tables.specs.declared.Kind.TheVariants.{Equal, Different}
 use Rattle.tables.specs.declared.Side.{Side}
 use Rattle.tables.specs.declared.Side.TheVariants.{A, B}
 use Rattle.closure.specs.Graph.{EdgeKind, Edge, basic, derived, Graph, joined, Path, forth, back, path, parent_paths}
@@ -19,10 +20,10 @@ abbrev pub over : ℕ → List ℕ → Term
 over symbol arguments = record { symbol = symbol; arguments = arguments }
 
 abbrev pub equality : Side → ℕ → ℕ → Literal
-equality X s t = record { side = X; kind = equal; left = s; right = t }
+equality X s t = record { side = X; kind = Equal; left = s; right = t }
 
 abbrev pub disequality : Side → ℕ → ℕ → Literal
-disequality X s t = record { side = X; kind = different; left = s; right = t }
+disequality X s t = record { side = X; kind = Different; left = s; right = t }
 
 abbrev pub edge : EdgeKind → Side → ℕ → ℕ → Edge
 edge kind X s t = record { left = s; right = t; colour = X; kind = kind }
@@ -99,6 +100,6 @@ unfolding computing
 joined_gets_no_edge = refl
 
 -- "all basic steps ..; then, repeatedly, the derived step .. until none is left": three basic steps, and a derived one
-pub own_run_goes_on : own_run late_terms late_equalities ≡ some (record { added = []; graph = late_graph })
+pub own_run_goes_on : own_run late_terms late_equalities ≡ Some (record { added = []; graph = late_graph })
 unfolding computing
 own_run_goes_on = refl

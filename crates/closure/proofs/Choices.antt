@@ -1,7 +1,7 @@
 -- 01, "The library's own run": its three choices, each on small tables that show it. Another choice is allowed in demand 3 and summarises A as well,
 -- so no law of all runs refuses it: here the run's last state would be another one. demands/proofs/Choices has the same tables as bytes.
+use Rattle.std.proofs.Common.{Some}
 use mathlib.Core.List.{[], ◌∷◌}
-use mathlib.Core.Option.{some}
 use mathlib.Core.Path.{◌≡◌, refl}
 use Rattle.tables.specs.declared.Side.TheVariants.{A, B}
 use Rattle.closure.specs.Graph.{basic, derived}
@@ -12,7 +12,7 @@ use Rattle.closure.proofs.Applied.{over, equality, disequality, edge}
 -- "A derived edge is B where both ends are B-colourable, else A": f(k) and f(f(k)) are shared, and their edge is B.
 -- Terms k, f(k), f(f(k)). A k=f(k), B f(k) different f(f(k)).
 pub b_before_a : own_run (over 10 [] ∷ over 20 (0 ∷ []) ∷ over 20 (1 ∷ []) ∷ []) (equality A 0 1 ∷ disequality B 1 2 ∷ []) ≡
-    some (record { added = []; graph = edge derived B 1 2 ∷ edge basic A 0 1 ∷ [] })
+    Some (record { added = []; graph = edge derived B 1 2 ∷ edge basic A 0 1 ∷ [] })
 unfolding computing
 b_before_a = refl
 
@@ -22,7 +22,7 @@ b_before_a = refl
 pub first_pair_is : own_run
     (over 10 [] ∷ over 20 (0 ∷ []) ∷ over 20 (1 ∷ []) ∷ over 20 (2 ∷ []) ∷ over 20 (3 ∷ []) ∷ over 20 (4 ∷ []) ∷ [])
     (equality A 0 3 ∷ equality A 0 4 ∷ equality A 0 5 ∷ equality A 1 2 ∷ disequality B 1 4 ∷ []) ≡
-    some (record { added = []; graph = edge derived B 1 4 ∷ edge basic A 1 2 ∷ edge basic A 0 5 ∷ edge basic A 0 4 ∷ edge basic A 0 3 ∷ [] })
+    Some (record { added = []; graph = edge derived B 1 4 ∷ edge basic A 1 2 ∷ edge basic A 0 5 ∷ edge basic A 0 4 ∷ edge basic A 0 3 ∷ [] })
 unfolding computing
 first_pair_is = refl
 
@@ -32,7 +32,7 @@ first_pair_is = refl
 pub first_met_is : own_run
     (over 10 [] ∷ over 11 [] ∷ over 15 [] ∷ over 20 (2 ∷ []) ∷ over 14 [] ∷ over 20 (4 ∷ []) ∷ [])
     (equality A 4 1 ∷ equality B 1 0 ∷ equality B 0 2 ∷ equality A 0 5 ∷ disequality B 0 3 ∷ []) ≡
-    some
+    Some
     (record {
       added = over 20 (1 ∷ []) ∷ [];
       graph = edge derived B 3 6 ∷ edge derived A 5 6 ∷ edge basic A 0 5 ∷ edge basic B 0 2 ∷ edge basic B 1 0 ∷ edge basic A 4 1 ∷ [];

@@ -1,10 +1,10 @@
 -- 01, "Closure steps": what one step may be, as demand 3 allows it freely. ts are the given terms and ls the literals.
-use Rattle.std.specs.Prelude.{Bool, cond, not, ◌&&◌, ◌⊎◌, ◌≡◌, ℕ, zero, suc, T, eqb, ltb, length}
+use Rattle.std.specs.Prelude.{Bool, cond, not, ◌&&◌, ◌⊎◌, ◌≡◌, ℕ, zero, suc, T, eqb, ltb, length, Option, Some, None}
 use mathlib.Core.List.{List, [], ◌∷◌, ◌++◌, Memᴰ}
-use Rattle.std.proofs.Math.Option.{Option, some, none}
 use Rattle.tables.specs.Words.{same, first_below}
 use Rattle.tables.specs.Terms.{Term, term_at}
-use Rattle.tables.specs.LiteralTable.{Literal, equal}
+use Rattle.tables.specs.declared.Literal.{Literal}
+use Rattle.tables.specs.declared.Kind.TheVariants.{Equal}
 use Rattle.tables.specs.declared.Side.{Side}
 use Rattle.tables.specs.declared.Side.TheVariants.{A, B}
 use Rattle.tables.specs.Colours.{is_in_use, colourable, shared, edge_colourable}
@@ -57,8 +57,8 @@ pub record Placed : Type 0 where
   pub number : ℕ
 
 unfoldable pub place_as : List Term → State → Term → Option ℕ → Placed
-place_as ts st m (some v) = record { state = st; number = v }
-place_as ts st m none =
+place_as ts st m (Some v) = record { state = st; number = v }
+place_as ts st m None =
     record { state = record { added = st.added ++ (m ∷ []); graph = st.graph }; number = length (table_of ts st) }
 
 unfoldable pub placed : List Term → List Literal → State → Term → Placed
@@ -93,7 +93,7 @@ pub data Chosen (ts : List Term) (ls : List Literal) (table : List Term) (G : Gr
 -- "A step is taken only between unjoined terms s and t"
 pub data Step (ts : List Term) (ls : List Literal) (st : State) : State → Type 0 where
   -- "basic: an equality record has the sides s and t. The edge's colour is that record's side."
-  basic_step : (l : Literal) (s t : ℕ) → Memᴰ l ls → l.kind ≡ equal → HasSides l s t →
+  basic_step : (l : Literal) (s t : ℕ) → Memᴰ l ls → l.kind ≡ Equal → HasSides l s t →
       T (not (joined st.graph s t)) → Step ts ls st (with_edge st s t l.side basic)
   -- "derived": between any vertices; the colour is one that both ends have, so a free choice where both are shared
   derived_step : (s t : ℕ) (colour : Side) → T (vertex ts ls st s) → T (vertex ts ls st t) →

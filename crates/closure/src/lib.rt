@@ -5,14 +5,14 @@
 use tables::Side;
 
 // Where an edge comes from.
-#[derive(Clone, Copy)]
+#[derive(Clone, Copy, Debug, PartialEq, Eq)]
 pub enum EdgeKind {
     Basic,
     Derived,
 }
 
 // "A graph edge is one record holding ends, colour and kind."
-#[derive(Clone, Copy)]
+#[derive(Clone, Copy, Debug, PartialEq, Eq)]
 pub struct Edge {
     pub left: u16,
     pub right: u16,

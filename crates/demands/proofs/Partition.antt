@@ -1,10 +1,9 @@
 -- What the partition's bytes say: a class number for each given term.
+use Rattle.std.proofs.Common.{Option, Some, None, unwrap_or}
 use mathlib.Core.Bool.{Bool, not, ◌&&◌}
 use mathlib.Core.List.Memᴰ
 use mathlib.Core.List.{List, [], ◌∷◌, ◌++◌, map, flat_map, Memᴰ}
 use mathlib.Core.Logic.{◌⊎◌, inl, inr, ◌↔◌}
-use mathlib.Core.Option
-use mathlib.Core.Option.{Option, some, none}
 use mathlib.Core.Path.{◌≡◌, refl, sym, ap, subst, ◌∙◌}
 use Prim.Native.Nat.{ℕ, zero, suc, ◌*◌, ◌≤◌, ◌<◌}
 use native.Mathlib.Nat.{not-suc-le-zero}
@@ -15,7 +14,7 @@ use lib.Seq.{get_or_at}
 use Rattle.tables.specs.Words.{below, first_below, First}
 use Rattle.tables.specs.Bytes.{word_at, word_bytes}
 use Rattle.tables.specs.Terms.{Term}
-use Rattle.tables.specs.LiteralTable.{Literal}
+use Rattle.tables.specs.declared.Literal.{Literal}
 use Rattle.tables.specs.Colours.{is_in_use}
 use Rattle.tables.proofs.Words.{and_left, and_right, and_both, by_test, passes, fails, passed, failed, below_or_is, length_below, first_below_some, first_below_none, first_one}
 use Rattle.tables.proofs.WordBytes.{word_read, record_read, records_length}
@@ -49,7 +48,7 @@ module _ (ts : List Term) (ls : List Literal) (G : Graph) where
   unfolding class_number
   class_idle t h = rw (failed (is_in_use ts ls t) h)
 
-  class_used : (t : ℕ) → T (is_in_use ts ls t) → class_number ts ls G t ≡ Option.get_or (first_below (of_class t) (length ts)) 65535
+  class_used : (t : ℕ) → T (is_in_use ts ls t) → class_number ts ls G t ≡ unwrap_or (first_below (of_class t) (length ts)) 65535
   unfolding class_number
   class_used t h = rw (passed (is_in_use ts ls t) h)
 
@@ -58,8 +57,8 @@ module _ (ts : List Term) (ls : List Literal) (G : Graph) where
   class_lowest t w h = go (first_below (of_class t) (length ts)) refl
     where
       go : (o : Option ℕ) → first_below (of_class t) (length ts) ≡ o → First (λ u. T (of_class t u)) (length ts) (class_number ts ls G t)
-      go (some k) e = subst (First (λ u. T (of_class t u)) (length ts)) (sym (class_used t h ∙ ap (λ (o : Option ℕ). Option.get_or o 65535) e)) (first_below_some (of_class t) (length ts) k e)
-      go none e = absurd (first_below_none (of_class t) (length ts) e t w (and_both (is_in_use ts ls t) (joined G t t) h (joined_self G t)))
+      go (Some k) e = subst (First (λ u. T (of_class t u)) (length ts)) (sym (class_used t h ∙ ap (λ (o : Option ℕ). unwrap_or o 65535) e)) (first_below_some (of_class t) (length ts) k e)
+      go None e = absurd (first_below_none (of_class t) (length ts) e t w (and_both (is_in_use ts ls t) (joined G t t) h (joined_self G t)))
 
   -- two terms in use have one class number exactly when they are joined
   pub class_joined : (u v : ℕ) → u < length ts → v < length ts → T (is_in_use ts ls u) → T (is_in_use ts ls v) → (class_number ts ls G u ≡ class_number ts ls G v) ↔ T (joined G u v)
@@ -84,9 +83,9 @@ module _ (ts : List Term) (ls : List Literal) (G : Graph) where
   pub class_fits : (t : ℕ) → length ts ≤ 256 → class_number ts ls G t < 65536
   class_fits t few = by_test (is_in_use ts ls t) (λ e. used (passes (is_in_use ts ls t) e)) (λ e. subst (λ (k : ℕ). k < 65536) (sym (class_idle t (fails (is_in_use ts ls t) e))) (lit< tt))
     where
-      found : (o : Option ℕ) → first_below (of_class t) (length ts) ≡ o → Option.get_or o 65535 < 65536
-      found (some k) e = omega (arith, (first_below_some (of_class t) (length ts) k e).within)
-      found none e = lit< tt
+      found : (o : Option ℕ) → first_below (of_class t) (length ts) ≡ o → unwrap_or o 65535 < 65536
+      found (Some k) e = omega (arith, (first_below_some (of_class t) (length ts) k e).within)
+      found None e = lit< tt
 
       used : T (is_in_use ts ls t) → class_number ts ls G t < 65536
       used h = subst (λ (k : ℕ). k < 65536) (sym (class_used t h)) (found (first_below (of_class t) (length ts)) refl)

@@ -1,7 +1,7 @@
 -- The promises: the demands of specs/Demands.antt, proved of every call. docs/PROMISES.md goes through them sentence by sentence.
+use Rattle.std.proofs.Common.{Option, Some, None}
 use mathlib.Core.List.{List, ◌++◌, Memᴰ}
 use mathlib.Core.Logic.{◌↔◌}
-use mathlib.Core.Option.{Option, some, none}
 use mathlib.Core.Path.{◌≡◌, refl, sym, ap, ap₂, subst, subst₂, ◌∙◌}
 use Prim.Native.Nat.{ℕ, ◌*◌, ◌≤◌, ◌<◌}
 use native.Mathlib.Omega.{arith}
@@ -13,11 +13,12 @@ use Rattle.tables.specs.Bytes.{AllBytes}
 use Rattle.tables.specs.Terms.{Term}
 use Rattle.tables.specs.Parts.{LowerArguments}
 use Rattle.tables.specs.TermTable.{terms_of}
-use Rattle.tables.specs.LiteralTable.{Literal, different, literals_of}
+use Rattle.tables.specs.LiteralTable.{literals_of}
+use Rattle.tables.specs.declared.Literal.{Literal}
+use Rattle.tables.specs.declared.Kind.TheVariants.{Different}
 use Rattle.tables.specs.Colours.{is_in_use}
 use Rattle.tables.specs.Rows.{Refuses, Accepted}
-use Rattle.tables.specs.Checks.{checked}
-use Rattle.tables.specs.declared.Check.TheVariants.{Sound}
+use Rattle.tables.specs.Checks.{Sound, checked}
 use Rattle.tables.specs.Interpretations.{Satisfiable, FinitelySatisfiable}
 use Rattle.tables.proofs.Colours.{SidesWithin, in_use_within}
 use Rattle.tables.proofs.Words.{and_left, and_right, and_both}
@@ -57,7 +58,7 @@ use Rattle.demands.proofs.Ways.{Way, refused_way, answered_way, way, refusal_giv
 module _ (ts : List Term) (ls : List Literal) (lower : LowerArguments ts) (within : SidesWithin ts ls) where
   -- "the clauses read off the graph use only shared symbols, hold in every interpretation that satisfies A, and are never all true in one that
   -- satisfies B"
-  run_summarises : {k : ℕ} {st : State} → Run ts ls k st → (l : Literal) → Memᴰ l ls → l.kind ≡ different → T (joined st.graph l.left l.right) → Summarises ts ls (table_of ts st) (standing (length (table_of ts st)) (summary ts ls (table_of ts st) st.graph l))
+  run_summarises : {k : ℕ} {st : State} → Run ts ls k st → (l : Literal) → Memᴰ l ls → l.kind ≡ Different → T (joined st.graph l.left l.right) → Summarises ts ls (table_of ts st) (standing (length (table_of ts st)) (summary ts ls (table_of ts st) st.graph l))
   run_summarises {st = st} run l stands differ meet =
       let s = run_sound ts ls lower within run in
       let n = length (table_of ts st) in
@@ -91,19 +92,19 @@ module _ (ts : List Term) (ls : List Literal) (lower : LowerArguments ts) (withi
     ended = own_run_complete ts ls lower within st v.last
 
   -- no critical disequality: some finite interpretation satisfies A and B
-  apart_finite : (st : State) → Verdict ts ls st none → FinitelySatisfiable ts ls
+  apart_finite : (st : State) → Verdict ts ls st None → FinitelySatisfiable ts ls
   apart_finite st v = (runs.apart_finitely ts ls lower within (run st v) (ended st v)).0 (critical_none ls st.graph v.found)
 
   -- a critical disequality: none does
-  critical_never : (st : State) (d : ℕ) → Verdict ts ls st (some d) → Satisfiable ts ls → ⊥
+  critical_never : (st : State) (d : ℕ) → Verdict ts ls st (Some d) → Satisfiable ts ls → ⊥
   critical_never st d v s =
       let x = critical_found ls st.graph d v.found in
       (runs.apart_exact ts ls lower within (run st v) (ended st v)).1 s (literal_at ls d) x.stands x.differs x.meets
 
   -- what the partition holds where the answer is consistent: p is the partition at exit
-  module _ (few : length ts ≤ 256) (st : State) (v : Verdict ts ls st none) (bs : Buffers) where
+  module _ (few : length ts ≤ 256) (st : State) (v : Verdict ts ls st None) (bs : Buffers) where
     p : List ℕ
-    p = (answered ts ls bs st none).buffers.partition
+    p = (answered ts ls bs st None).buffers.partition
 
     -- the class number that the call writes for a given term
     class : (t : ℕ) → t < length ts → class_at p t ≡ class_number ts ls st.graph t
@@ -131,7 +132,7 @@ module _ (ts : List Term) (ls : List Literal) (lower : LowerArguments ts) (withi
           none_lower = λ u l hu e. first.none_before u l (and_both (is_in_use ts ls u) (joined st.graph u t) hu ((class_means u t hu h).0 e));
         }
 
-    classes_held : Classes ts ls (answered ts ls bs st none).buffers.partition
+    classes_held : Classes ts ls (answered ts ls bs st None).buffers.partition
     unfolding p
     classes_held =
         record {
@@ -166,8 +167,8 @@ one_answer (Refused n p) (Refused m q) e = λ i. Refused (e i).number (e i).plac
 
 -- an answer is no refusal
 answered_refused : (ts : List Term) (ls : List Literal) (bs : Buffers) (st : State) (o : Option ℕ) {n p : ℕ} → (answered ts ls bs st o).numbers ≡ numbers_of (Refused n p) → ⊥
-answered_refused ts ls bs st none e = consistent_refused e
-answered_refused ts ls bs st (some d) e = inconsistent_refused e
+answered_refused ts ls bs st None e = consistent_refused e
+answered_refused ts ls bs st (Some d) e = inconsistent_refused e
 
 -- ---- a call on any bytes
 
@@ -208,24 +209,24 @@ module _ (terms literals : List ℕ) (bs : Buffers) where
 
     -- of a call that is not refused
     demand_2 : (st : State) (o : Option ℕ) → Verdict ts ls st o → Demand2 ts ls bs (answered ts ls bs st o)
-    demand_2 st none v =
+    demand_2 st None v =
         record {
           consistent_exactly = (λ e. apart_finite ts ls lower within st v, λ s. refl);
           inconsistent_unsatisfiable = λ d a k e. absurd (consistent_inconsistent e);
           classes = λ e. classes_held ts ls lower within few st v bs;
-          bytes = (st, none, v, refl);
+          bytes = (st, None, v, refl);
         }
-    demand_2 st (some d) v =
+    demand_2 st (Some d) v =
         let never : Satisfiable ts ls → ⊥ = critical_never ts ls lower within st d v in
         record {
           consistent_exactly = (λ e. absurd (consistent_inconsistent (sym e)), λ s. absurd (never (s.0, s.2, s.3)));
           inconsistent_unsatisfiable = λ x a k e. never;
           classes = λ e. absurd (consistent_inconsistent (sym e));
-          bytes = (st, some d, v, refl);
+          bytes = (st, Some d, v, refl);
         }
 
     -- demand 3 on the bytes that come back
-    returned_summarises : AllBytes terms → (st : State) (d : ℕ) → Verdict ts ls st (some d) → (a k : ℕ) → a ≡ length st.added → k ≡ length (records_in ts ls st (literal_at ls d)) → Summarises ts ls (terms_of (terms ++ take (16 * a) (answered ts ls bs st (some d)).buffers.added)) (clauses_read k (answered ts ls bs st (some d)).buffers.clauses)
+    returned_summarises : AllBytes terms → (st : State) (d : ℕ) → Verdict ts ls st (Some d) → (a k : ℕ) → a ≡ length st.added → k ≡ length (records_in ts ls st (literal_at ls d)) → Summarises ts ls (terms_of (terms ++ take (16 * a) (answered ts ls bs st (Some d)).buffers.added)) (clauses_read k (answered ts ls bs st (Some d)).buffers.clauses)
     unfolding written_over records_in
     returned_summarises all-bytes st d v a k added_count record-count =
         let r = run ts ls lower within st v in
@@ -234,15 +235,15 @@ module _ (terms literals : List ℕ) (bs : Buffers) where
         let many : length (table_of ts st) ≤ 511 = omega (arith, length-append ts st.added, few, few_added ts ls lower within few r) in
         let rest = drop (length (clause_bytes_of ts ls st d)) bs.clauses in
         let written = written_summarises ts st.added ls s.lower within st.graph s.edges (literal_at ls d) x.stands x.differs x.meets many rest in
-        let taken : take (16 * a) (answered ts ls bs st (some d)).buffers.added ≡ added_bytes st.added = take_at (added_bytes st.added) (drop (length (added_bytes st.added)) bs.added) (16 * a) (added_bytes_length st.added ∙ ap (λ (n : ℕ). 16 * n) (sym added_count)) in
-        let table : terms_of (terms ++ take (16 * a) (answered ts ls bs st (some d)).buffers.added) ≡ table_of ts st = ap (λ (l : List ℕ). terms_of (terms ++ l)) taken ∙ table_read terms st.added (sound terms literals good).terms_whole (λ m stands. added_fits terms literals (sound terms literals good) all-bytes r m stands) in
-        let clauses : clauses_read k (answered ts ls bs st (some d)).buffers.clauses ≡ clauses_read (length (records_in ts ls st (literal_at ls d))) (clause_bytes_of ts ls st d ++ rest) = ap (λ (n : ℕ). clauses_read n (clause_bytes_of ts ls st d ++ rest)) record-count in
+        let taken : take (16 * a) (answered ts ls bs st (Some d)).buffers.added ≡ added_bytes st.added = take_at (added_bytes st.added) (drop (length (added_bytes st.added)) bs.added) (16 * a) (added_bytes_length st.added ∙ ap (λ (n : ℕ). 16 * n) (sym added_count)) in
+        let table : terms_of (terms ++ take (16 * a) (answered ts ls bs st (Some d)).buffers.added) ≡ table_of ts st = ap (λ (l : List ℕ). terms_of (terms ++ l)) taken ∙ table_read terms st.added (sound terms literals good).terms_whole (λ m stands. added_fits terms literals (sound terms literals good) all-bytes r m stands) in
+        let clauses : clauses_read k (answered ts ls bs st (Some d)).buffers.clauses ≡ clauses_read (length (records_in ts ls st (literal_at ls d))) (clause_bytes_of ts ls st d ++ rest) = ap (λ (n : ℕ). clauses_read n (clause_bytes_of ts ls st d ++ rest)) record-count in
         subst₂ (λ (t : List Term) (cs : List Clause). Summarises ts ls t cs) (sym table) (sym clauses) written
 
     -- of an answer
     returned : AllBytes terms → (st : State) (o : Option ℕ) → Verdict ts ls st o → (d a k : ℕ) → (answered ts ls bs st o).numbers ≡ numbers_of (Inconsistent d a k) → Summarises ts ls (terms_of (terms ++ take (16 * a) (answered ts ls bs st o).buffers.added)) (clauses_read k (answered ts ls bs st o).buffers.clauses)
-    returned all-bytes st none v d a k e = absurd (consistent_inconsistent e)
-    returned all-bytes st (some x) v d a k e =
+    returned all-bytes st None v d a k e = absurd (consistent_inconsistent e)
+    returned all-bytes st (Some x) v d a k e =
         returned_summarises all-bytes st x v a k
         (sym (ap (λ (y : Numbers). y.added) e) ∙ length-map st.added term_bytes)
         (sym (ap (λ (y : Numbers). y.records) e))
@@ -297,5 +298,5 @@ settled terms literals bs r x = go (way terms literals bs)
         let same_end : b.1 ≡ o = sym b.2.found ∙ ap (λ (s : State). critical ls s.graph) same-state ∙ v.found in
         b.3 ∙ ap₂ (answered ts ls bs) same-state same_end ∙ sym e
       where
-        one_some : {s t : State} → some s ≡ some t → s ≡ t
+        one_some : {s t : State} → Some s ≡ Some t → s ≡ t
         one_some q = cc

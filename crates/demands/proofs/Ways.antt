@@ -1,8 +1,8 @@
 -- The ways in which a call comes back: refused by a row, or answered by one of the two verdicts. There is no other.
+use Rattle.std.proofs.Common.{Option, Some, None, Err}
 use mathlib.Core.Bool.{Bool, true, false, cond}
 use mathlib.Core.List.{List, [], ◌∷◌, map, flat_map}
 use mathlib.Core.Logic.{⊎_elim}
-use mathlib.Core.Option.{Option, some, none}
 use mathlib.Core.Path.{◌≡◌, refl, sym, ap, ap₂, subst, ◌∙◌}
 use Prim.Native.Nat.{ℕ, ◌*◌, ◌≤◌, ◌<◌}
 use native.Mathlib.Omega.{arith}
@@ -10,14 +10,14 @@ use lib.Dec.{ltb, lt→ltb, ltb→lt, not_T}
 use lib.ListN.{length}
 use Rattle.tables.specs.Terms.{Term}
 use Rattle.tables.specs.TermTable.{terms_of}
-use Rattle.tables.specs.LiteralTable.{Literal, literals_of}
+use Rattle.tables.specs.LiteralTable.{literals_of}
+use Rattle.tables.specs.declared.Literal.{Literal}
 use Rattle.tables.specs.Rows.{row, Refuses, table_rows}
-use Rattle.tables.specs.Checks.{checked, number_of, place_in}
-use Rattle.tables.specs.declared.Check.{Check}
-use Rattle.tables.specs.declared.Check.TheVariants.{Sound}
+use Rattle.tables.specs.Checks.{Sound, checked, number_of, place_in}
+use Rattle.tables.specs.declared.Refusal.{Refusal}
 use Rattle.tables.proofs.Words.{by_test, passes, fails, passed, failed}
 use Rattle.tables.proofs.Rows.{sound_or_refused, checked_says, sound_exactly, refuses_early, refuses_last, refuses_either}
-use Rattle.tables.proofs.Sound.{sound, lower_arguments, sides_within, refused_number}
+use Rattle.tables.proofs.Sound.{sound, lower_arguments, sides_within}
 use Rattle.closure.specs.Steps.{State, table_of}
 use Rattle.closure.specs.OwnRun.{own_run}
 use Rattle.closure.proofs.Running.OwnRun.{own_run_never_stuck}
@@ -84,13 +84,13 @@ module _ (terms literals : List ℕ) (bs : Buffers) where
   ls = literals_of literals
 
   -- a refused table comes back as rows 1 to 6 say
-  pub judged_refused : (check : Check) → checked terms literals ≡ check → (check ≡ Sound → ⊥) → judged terms literals bs ≡ refused bs (number_of check) (place_in check)
+  pub judged_refused : (r : Refusal) → checked terms literals ≡ Err r → judged terms literals bs ≡ refused bs (number_of r) (place_in r)
   unfolding judged after_checks
-  judged_refused check e n = rw e (rw (refused_number check n) refl)
+  judged_refused r e = rw e refl
 
   -- a sound table goes on to the run
   pub judged_ended : checked terms literals ≡ Sound → judged terms literals bs ≡ ended bs (terms_of terms) (literals_of literals) (own_run (terms_of terms) (literals_of literals))
-  unfolding judged after_checks number_of
+  unfolding judged after_checks
   judged_ended e = rw e refl
 
   module _ (good : checked terms literals ≡ Sound) where
@@ -100,17 +100,17 @@ module _ (terms literals : List ℕ) (bs : Buffers) where
     judged_verdict {st} v = judged_ended good ∙ ap (ended bs ts ls) v.last ∙ ap (verdict bs ts ls st) v.found
 
     -- a consistent verdict, by the test of the partition's room
-    by_partition : {st : State} {b : Bool} → Verdict ts ls st none → too_short (partition_bytes ts ls st.graph) bs.partition ≡ b → judged terms literals bs ≡ cond b (refused bs 7 0) (answered ts ls bs st none)
+    by_partition : {st : State} {b : Bool} → Verdict ts ls st None → too_short (partition_bytes ts ls st.graph) bs.partition ≡ b → judged terms literals bs ≡ cond b (refused bs 7 0) (answered ts ls bs st None)
     unfolding verdict consistent
-    by_partition {st} v s = judged_verdict v ∙ ap (λ (b : Bool). cond b (refused bs 7 0) (answered ts ls bs st none)) s
+    by_partition {st} v s = judged_verdict v ∙ ap (λ (b : Bool). cond b (refused bs 7 0) (answered ts ls bs st None)) s
 
     -- an inconsistent one, by the tests of the two other buffers
-    by_added : {st : State} {d : ℕ} {b : Bool} → Verdict ts ls st (some d) → too_short (added_bytes_of st) bs.added ≡ b → judged terms literals bs ≡ cond b (refused bs 7 1) (cond (too_short (clause_bytes_of ts ls st d) bs.clauses) (refused bs 7 2) (answered ts ls bs st (some d)))
+    by_added : {st : State} {d : ℕ} {b : Bool} → Verdict ts ls st (Some d) → too_short (added_bytes_of st) bs.added ≡ b → judged terms literals bs ≡ cond b (refused bs 7 1) (cond (too_short (clause_bytes_of ts ls st d) bs.clauses) (refused bs 7 2) (answered ts ls bs st (Some d)))
     unfolding verdict inconsistent
-    by_added {st} {d} v s = judged_verdict v ∙ ap (λ (b : Bool). cond b (refused bs 7 1) (cond (too_short (clause_bytes_of ts ls st d) bs.clauses) (refused bs 7 2) (answered ts ls bs st (some d)))) s
+    by_added {st} {d} v s = judged_verdict v ∙ ap (λ (b : Bool). cond b (refused bs 7 1) (cond (too_short (clause_bytes_of ts ls st d) bs.clauses) (refused bs 7 2) (answered ts ls bs st (Some d)))) s
 
-    by_both : {st : State} {d : ℕ} {b : Bool} → Verdict ts ls st (some d) → too_short (added_bytes_of st) bs.added ≡ false → too_short (clause_bytes_of ts ls st d) bs.clauses ≡ b → judged terms literals bs ≡ cond b (refused bs 7 2) (answered ts ls bs st (some d))
-    by_both {st} {d} v s z = by_added v s ∙ ap (λ (b : Bool). cond b (refused bs 7 2) (answered ts ls bs st (some d))) z
+    by_both : {st : State} {d : ℕ} {b : Bool} → Verdict ts ls st (Some d) → too_short (added_bytes_of st) bs.added ≡ false → too_short (clause_bytes_of ts ls st d) bs.clauses ≡ b → judged terms literals bs ≡ cond b (refused bs 7 2) (answered ts ls bs st (Some d))
+    by_both {st} {d} v s z = by_added v s ∙ ap (λ (b : Bool). cond b (refused bs 7 2) (answered ts ls bs st (Some d))) z
 
     -- row 7 refuses, where rows 1 to 6 do not
     seven : (p : ℕ) → Short ts ls bs p → Way terms literals bs (refused bs 7 p)
@@ -118,16 +118,16 @@ module _ (terms literals : List ℕ) (bs : Buffers) where
 
     -- what the call returns, for each verdict
     verdict_way : (st : State) (o : Option ℕ) → Verdict ts ls st o → Way terms literals bs (judged terms literals bs)
-    verdict_way st none v =
+    verdict_way st None v =
         by_room (partition_bytes ts ls st.graph) bs.partition (2 * length ts) (partition_length ts ls st.graph)
         (λ s h. subst (Way terms literals bs) (sym (by_partition v s)) (seven 0 (partition_short st v h refl)))
-        (λ s h. answered_way st none good v (by_partition v s))
-    verdict_way st (some d) v =
+        (λ s h. answered_way st None good v (by_partition v s))
+    verdict_way st (Some d) v =
         by_room (added_bytes_of st) bs.added (16 * length st.added) (added_bytes_length st.added)
         (λ s h. subst (Way terms literals bs) (sym (by_added v s)) (seven 1 (added_short st d v h refl)))
         (λ s h. by_room (clause_bytes_of ts ls st d) bs.clauses (8 * length (records_in ts ls st (literal_at ls d))) (clauses_length ts ls st d)
         (λ z k. subst (Way terms literals bs) (sym (by_both v s z)) (seven 2 (clauses_short st d v h k refl)))
-        (λ z k. answered_way st (some d) good v (by_both v s z)))
+        (λ z k. answered_way st (Some d) good v (by_both v s z)))
 
     -- where row 7 refuses, the call does
     short_given : (p : ℕ) → Short ts ls bs p → judged terms literals bs ≡ refused bs 7 p
@@ -142,21 +142,18 @@ module _ (terms literals : List ℕ) (bs : Buffers) where
 
   -- the way that the call went
   pub way : Way terms literals bs (judged terms literals bs)
-  way = ⊎_elim run (λ f. refused_way (number_of c) (place_in c) (refuses_early (table_rows terms literals) (row 7 (Short ts ls bs) ∷ []) _ _ ((checked_says terms literals).found f)) (judged_refused c refl f)) (sound_or_refused c)
+  way = ⊎_elim run (λ w. refused_way (number_of w.0) (place_in w.0) (refuses_early (table_rows terms literals) (row 7 (Short ts ls bs) ∷ []) _ _ ((checked_says terms literals).found w.0 w.1)) (judged_refused w.0 w.1)) (sound_or_refused (checked terms literals))
     where
-      c : Check
-      c = checked terms literals
-
       run : checked terms literals ≡ Sound → Way terms literals bs (judged terms literals bs)
       run e = go (own_run ts ls) refl
         where
           go : (o : Option State) → own_run ts ls ≡ o → Way terms literals bs (judged terms literals bs)
-          go none q = absurd (own_run_never_stuck ts ls (lower_arguments terms literals (sound terms literals e)) (sides_within terms literals (sound terms literals e)) q)
-          go (some st) q = verdict_way e st (critical ls st.graph) (record { last = q; found = refl })
+          go None q = absurd (own_run_never_stuck ts ls (lower_arguments terms literals (sound terms literals e)) (sides_within terms literals (sound terms literals e)) q)
+          go (Some st) q = verdict_way e st (critical ls st.graph) (record { last = q; found = refl })
 
   -- where a row refuses, the call does
   pub refusal_given : (n p : ℕ) → Refuses (rows_of terms literals bs) n p → judged terms literals bs ≡ refused bs n p
   refusal_given n p x = ⊎_elim
-      (λ y. let s = (checked_says terms literals).given n p y in judged_refused (checked terms literals) refl s.0 ∙ ap₂ (refused bs) (sym s.1) (sym s.2))
+      (λ y. let s = (checked_says terms literals).given n p y in judged_refused s.0 s.1 ∙ ap₂ (refused bs) (sym s.2) (sym s.3))
       (λ y. short_given ((sound_exactly terms literals).1 y.0) p y.2 ∙ ap (λ (m : ℕ). refused bs m p) (sym y.1))
       (refuses_either (table_rows terms literals) (row 7 (Short ts ls bs)) n p x)

@@ -1,11 +1,10 @@
 -- 01, "What comes back": the bytes that an answer writes.
-use Rattle.std.specs.Prelude.{cond, ◌&&◌, ◌≡◌, ℕ, ◌<◌, T, length, take, drop}
+use Rattle.std.specs.Prelude.{cond, ◌&&◌, ◌≡◌, ℕ, ◌<◌, T, length, take, drop, unwrap_or}
 use mathlib.Core.List.{List, [], ◌∷◌, ◌++◌, flat_map}
-use Rattle.std.proofs.Math.Option.{get_or}
 use Rattle.tables.specs.Words.{below, first_below}
 use Rattle.tables.specs.Bytes.{word_at, record_at, word_bytes}
 use Rattle.tables.specs.Terms.{Term}
-use Rattle.tables.specs.LiteralTable.{Literal}
+use Rattle.tables.specs.declared.Literal.{Literal}
 use Rattle.tables.specs.Colours.{is_in_use}
 use Rattle.closure.specs.Graph.{Graph, joined}
 use Rattle.demands.specs.declared.Numbers.{Numbers}
@@ -24,7 +23,7 @@ pub record Returned : Type 0 where
 -- "the lowest number of a given term in its class; a term not in use gets 65535"
 unfoldable pub class_number : List Term → List Literal → Graph → ℕ → ℕ
 class_number ts ls G t =
-    let lowest = get_or (first_below (λ u. is_in_use ts ls u && joined G u t) (length ts)) 65535 in
+    let lowest = unwrap_or (first_below (λ u. is_in_use ts ls u && joined G u t) (length ts)) 65535 in
     cond (is_in_use ts ls t) lowest 65535
 
 -- "the partition buffer's first 2n bytes hold, for each of the n terms" that number

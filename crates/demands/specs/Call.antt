@@ -1,14 +1,13 @@
 -- The whole call as a procedure: the two tables and the three lent buffers as bytes, and all that comes back. 01's rows in their order. Demands says
 -- the same without a procedure, and proofs/Promises shows that it settles all of it.
-use Rattle.std.specs.Prelude.{Bool, cond, ◌≡◌, ℕ, eqb, ltb, length}
+use Rattle.std.specs.Prelude.{Bool, cond, ◌≡◌, ℕ, ltb, length, Option, Some, None, Ok, Err}
 use mathlib.Core.List.{List, map, flat_map}
-use Rattle.std.proofs.Math.Option.{Option, some, none}
 use Rattle.tables.specs.Bytes.{AllBytes}
 use Rattle.tables.specs.Terms.{Term}
 use Rattle.tables.specs.TermTable.{terms_of}
-use Rattle.tables.specs.LiteralTable.{Literal, literals_of}
-use Rattle.tables.specs.Checks.{checked, number_of, place_in}
-use Rattle.tables.specs.declared.Check.{Check}
+use Rattle.tables.specs.LiteralTable.{literals_of}
+use Rattle.tables.specs.declared.Literal.{Literal}
+use Rattle.tables.specs.Checks.{Check, checked, number_of, place_in}
 use Rattle.closure.specs.Steps.{State}
 use Rattle.closure.specs.OwnRun.{own_run}
 use Rattle.clauses.specs.Reading.{literal_at, critical}
@@ -38,17 +37,18 @@ inconsistent bs disequality added records =
 
 -- the verdict: consistent, or inconsistent by the critical disequality
 unfoldable pub verdict : Buffers → List Term → List Literal → State → Option ℕ → Returned
-verdict bs ts ls st none = consistent bs (partition_bytes ts ls st.graph)
-verdict bs ts ls st (some d) = inconsistent bs d (map term_bytes st.added) (records_in ts ls st (literal_at ls d))
+verdict bs ts ls st None = consistent bs (partition_bytes ts ls st.graph)
+verdict bs ts ls st (Some d) = inconsistent bs d (map term_bytes st.added) (records_in ts ls st (literal_at ls d))
 
 -- row 8 stands before row 7: "a middle term is needed and a parent path has no shared term", place 0
 unfoldable pub ended : Buffers → List Term → List Literal → Option State → Returned
-ended bs ts ls none = refused bs 8 0
-ended bs ts ls (some st) = verdict bs ts ls st (critical ls st.graph)
+ended bs ts ls None = refused bs 8 0
+ended bs ts ls (Some st) = verdict bs ts ls st (critical ls st.graph)
 
 -- rows 1 to 6 come first: the number and place of the row that refuses
 unfoldable pub after_checks : Buffers → Check → Returned → Returned
-after_checks bs check next = cond (eqb (number_of check) 0) next (refused bs (number_of check) (place_in check))
+after_checks bs (Ok sound) next = next
+after_checks bs (Err row) next = refused bs (number_of row) (place_in row)
 
 -- the call on two tables and three lent buffers
 unfoldable pub judged : List ℕ → List ℕ → Buffers → Returned

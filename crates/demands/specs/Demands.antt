@@ -1,13 +1,14 @@
 -- The three demands as statements about what comes back of a call. terms and literals are the bytes of the two tables, bs the lent buffers at entry, and
 -- r what came back: the answer's numbers, and the buffers at exit. The file imports only what the statements need; proofs/Promises proves them of
 -- every call (`promised`).
-use Rattle.std.specs.Prelude.{not, ◌↔◌, ◌≡◌, ℕ, ◌*◌, ◌<◌, T, length, take}
+use Rattle.std.specs.Prelude.{not, ◌↔◌, ◌≡◌, ℕ, ◌*◌, ◌<◌, T, length, take, Option, Some}
 use mathlib.Core.List.{List, ◌++◌, Memᴰ}
-use Rattle.std.proofs.Math.Option.{Option, some}
 use Rattle.tables.specs.Words.{keep, below}
 use Rattle.tables.specs.Terms.{Term}
 use Rattle.tables.specs.TermTable.{terms_of}
-use Rattle.tables.specs.LiteralTable.{Literal, different, literals_of}
+use Rattle.tables.specs.LiteralTable.{literals_of}
+use Rattle.tables.specs.declared.Literal.{Literal}
+use Rattle.tables.specs.declared.Kind.TheVariants.{Different}
 use Rattle.tables.specs.Colours.{is_in_use}
 use Rattle.tables.specs.Interpretations.{Satisfiable, FinitelySatisfiable, Entailed, FinitelyEntailed}
 use Rattle.tables.specs.Rows.{Refuses, Accepted}
@@ -65,11 +66,11 @@ pub record Demand3 (ts : List Term) (ls : List Literal) : Type 1 where
   -- "whenever a disequality has its sides joined, the clauses read off the graph use only shared symbols, hold in every interpretation that satisfies A,
   -- and are never all true in one that satisfies B": in every graph that a run reaches
   pub run_summarises : {k : ℕ} {st : State} → Run ts ls k st →
-      (l : Literal) → Memᴰ l ls → l.kind ≡ different → T (joined st.graph l.left l.right) →
+      (l : Literal) → Memᴰ l ls → l.kind ≡ Different → T (joined st.graph l.left l.right) →
       Summarises ts ls (table_of ts st) (standing (length (table_of ts st)) (summary ts ls (table_of ts st) st.graph l))
   -- 01: "of which the library's run is shown to be one", and it is carried to its end
-  pub own_run_allowed : (st : State) → own_run ts ls ≡ some st → (k : ℕ) × Run ts ls k st
-  pub own_run_ended : (st : State) → own_run ts ls ≡ some st → NoStepLeft ts ls st
+  pub own_run_allowed : (st : State) → own_run ts ls ≡ Some st → (k : ℕ) × Run ts ls k st
+  pub own_run_ended : (st : State) → own_run ts ls ≡ Some st → NoStepLeft ts ls st
 
 -- all three demands of a call: what its contract says (`Called` of Call) gives them
 pub record Demands (terms literals : List ℕ) (bs : Buffers) (r : Returned) : Type 1 where

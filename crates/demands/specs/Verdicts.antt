@@ -1,9 +1,8 @@
 -- 01, "What comes back": the two verdicts, and what each writes.
 use mathlib.Core.List.{List, map, flat_map}
-use Rattle.std.proofs.Math.Option.{Option, some, none}
-use Rattle.std.specs.Prelude.{◌≡◌, ℕ, length}
+use Rattle.std.specs.Prelude.{◌≡◌, ℕ, length, Option, Some, None}
 use Rattle.tables.specs.Terms.{Term}
-use Rattle.tables.specs.LiteralTable.{Literal}
+use Rattle.tables.specs.declared.Literal.{Literal}
 use Rattle.closure.specs.Steps.{State, table_of}
 use Rattle.closure.specs.OwnRun.{own_run}
 use Rattle.clauses.specs.Reading.{literal_at, critical, summary}
@@ -14,7 +13,7 @@ use Rattle.demands.specs.Buffers.{Buffers, Returned, partition_bytes, term_bytes
 
 -- the library's own run ends in st, and o is the critical disequality there: "None: consistent."
 pub record Verdict (ts : List Term) (ls : List Literal) (st : State) (o : Option ℕ) : Type 0 where
-  pub last : own_run ts ls ≡ some st
+  pub last : own_run ts ls ≡ Some st
   pub found : critical ls st.graph ≡ o
 
 -- the summary's clause records in a state: those of the literal, over all given and added terms
@@ -39,5 +38,5 @@ with_summary bs d terms records =
 
 -- what comes back where no row refuses
 abbrev pub answered : List Term → List Literal → Buffers → State → Option ℕ → Returned
-answered ts ls bs st none = with_classes bs (partition_bytes ts ls st.graph)
-answered ts ls bs st (some d) = with_summary bs d (map term_bytes st.added) (records_in ts ls st (literal_at ls d))
+answered ts ls bs st None = with_classes bs (partition_bytes ts ls st.graph)
+answered ts ls bs st (Some d) = with_summary bs d (map term_bytes st.added) (records_in ts ls st (literal_at ls d))

@@ -10,7 +10,8 @@ use lib.ListN.{length}
 use Rattle.tables.specs.Words.{every, among}
 use Rattle.tables.specs.Terms.{Term, term_at, parts, symbols}
 use Rattle.tables.specs.Parts.{Part, itself, deeper, LowerArguments}
-use Rattle.tables.specs.LiteralTable.{Side, A, B, same_side, Literal}
+use Rattle.tables.specs.LiteralTable.{Side, A, B, same_side}
+use Rattle.tables.specs.declared.Literal.{Literal}
 use Rattle.tables.specs.Colours.{is_in_use, occurs_in, colourable, shared, edge_colourable}
 use Rattle.tables.specs.Read.{colour_number}
 use Rattle.tables.proofs.Words.{and_left, and_right, and_both, any_some, some_any, every_all, all_every, among_mem, mem_among}

@@ -7,6 +7,7 @@ pub mod Terms
 pub mod Colours
 pub mod Tests
 pub mod Records
+pub mod Searches
 pub mod Filled
 pub mod Sound
 pub mod Rows

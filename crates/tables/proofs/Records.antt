@@ -1,8 +1,8 @@
 -- Laws that the proofs of the code cite: a record as a part of its table, searches from the front, arrays filled from the front.
+use Rattle.std.proofs.Common.{Some, None}
 use mathlib.Core.Bool.{Bool, true, false, cond, ◌||◌}
 use mathlib.Core.List.{List, [], ◌∷◌, ◌++◌, map, map-append, append_assoc}
 use mathlib.Core.Logic.{⊎_elim}
-use mathlib.Core.Option.{some, none}
 use mathlib.Core.Path.{◌≡◌, refl, sym, ap, ap₂, ◌∙◌}
 use Prim.Native.Nat.{ℕ, suc, ◌+◌, ◌*◌, ◌-◌, ◌≤◌, ◌<◌, min}
 use native.Mathlib.Numerals.{add-one}
@@ -39,28 +39,7 @@ agree a b e f = ap (same a) (sym (ext_get_or 0 a b e f)) ∙ passed (same a a) (
 -- ---- searches from the front
 
 module _ (p : ℕ → Bool) (n : ℕ) where
-  -- the loops that ask whether some number below n passes: none below i did
-  abbrev pub NoneYet : ℕ → Type 0
-  NoneYet i = (i ≤ n) × (some_below p i ≡ false)
-
-  -- below 0 there is none
-  pub none_yet : NoneYet 0
-  unfolding below any
-  none_yet = (omega arith, refl)
-
-  -- one number that passes settles it
-  pub some_passed : (i : ℕ) (b : Bool) → i < n → b ≡ p i → b ≡ true → true ≡ some_below p n
-  some_passed i b h e t = sym (passed (some_below p n) (some_some_below p n i h (passes (p i) (sym e ∙ t))))
-
-  -- a number that fails is passed over
-  pub none_more : (i : ℕ) (b : Bool) → NoneYet i → i < n → b ≡ p i → b ≡ false → NoneYet (i + 1)
-  none_more i b y h e t = (omega arith, ap (some_below p) (add-one i) ∙ some_below_more p i ∙ ap₂ (λ (a c : Bool). a || c) y.1 (sym e ∙ t))
-
-  -- all were passed over
-  pub none_passed : (i : ℕ) → NoneYet i → n ≤ i → false ≡ some_below p n
-  none_passed i y h = let e : i ≡ n = omega arith in sym y.1 ∙ ap (some_below p) e
-
-  -- the loops that ask it without an early end: whether one below i did
+  -- the loops that ask, without an early end, whether some number below n passes: whether one below i did
   abbrev pub SoFar : ℕ → Bool → Type 0
   SoFar i b = (i ≤ n) × (b ≡ some_below p i)
 
@@ -79,7 +58,7 @@ module _ (p : ℕ → Bool) (n : ℕ) where
 
   -- the loops that look for the first number below n that passes: none below i did
   abbrev pub NotYet : ℕ → Type 0
-  NotYet i = (i ≤ n) × (first_below p i ≡ none)
+  NotYet i = (i ≤ n) × (first_below p i ≡ None)
 
   -- below 0 there is none
   pub not_yet : NotYet 0
@@ -87,16 +66,16 @@ module _ (p : ℕ → Bool) (n : ℕ) where
   not_yet = (omega arith, refl)
 
   -- the first number that passes
-  pub first_found : (i : ℕ) (b : Bool) → NotYet i → i < n → b ≡ p i → b ≡ true → some i ≡ first_below p n
+  pub first_found : (i : ℕ) (b : Bool) → NotYet i → i < n → b ≡ p i → b ≡ true → Some i ≡ first_below p n
   first_found i b y h e t = sym ((first_is p (λ j. T (p j)) (λ j. (λ w. w, λ w. w)) n i).1 (record { within = h; such = passes (p i) (sym e ∙ t); none_before = first_below_none p i y.1 }))
 
   -- a number that fails is passed over
   pub not_more : (i : ℕ) (b : Bool) → NotYet i → i < n → b ≡ p i → b ≡ false → NotYet (i + 1)
   unfolding below first_of
-  not_more i b y h e t = (omega arith, ap (first_below p) (add-one i) ∙ first_of_past p (below i) (i ∷ []) y.1 ∙ ap (λ (d : Bool). cond d (some i) none) (sym e ∙ t))
+  not_more i b y h e t = (omega arith, ap (first_below p) (add-one i) ∙ first_of_past p (below i) (i ∷ []) y.1 ∙ ap (λ (d : Bool). cond d (Some i) None) (sym e ∙ t))
 
   -- all were passed over
-  pub not_found : (i : ℕ) → NotYet i → n ≤ i → none ≡ first_below p n
+  pub not_found : (i : ℕ) → NotYet i → n ≤ i → None ≡ first_below p n
   not_found i y h = let e : i ≡ n = omega arith in sym y.1 ∙ ap (first_below p) e
 
 -- some number passes one of two tests where some number passes the one or some number passes the other

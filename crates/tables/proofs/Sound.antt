@@ -1,7 +1,7 @@
 -- What the checks of rows 1 to 6 settle: where none refuses, the tables have the form that the layers above rest on.
+use Rattle.std.proofs.Common.{Ok, Err}
 use mathlib.Core.List.Memᴰ
 use mathlib.Core.List.{List, [], ◌∷◌, Memᴰ}
-use mathlib.Core.Bool.{Bool, true, false, cond}
 use mathlib.Core.Logic.{◌⊎◌, inl, inr, ⊎_elim}
 use mathlib.Core.Path.{◌≡◌, refl, sym, ap, subst, ◌∙◌}
 use Prim.Native.Nat.{ℕ, ◌%◌, ◌≤◌, ◌<◌}
@@ -15,16 +15,17 @@ use Rattle.tables.specs.Terms.{Term, term_at, no_term}
 use Rattle.tables.specs.Parts.{LowerArguments}
 use Rattle.tables.specs.TermTable.{term_count, term_record, symbol_field, arity_field, argument_field, row_of, term_of, terms_of}
 use Rattle.tables.specs.Tests.{breaks_layout, had_other_arity, equals_earlier, breaks_literal}
-use Rattle.tables.specs.LiteralTable.{Literal, literal_count, literal_record, literal_of, literals_of}
+use Rattle.tables.specs.LiteralTable.{literal_count, literal_record, literal_of, literals_of}
+use Rattle.tables.specs.declared.Literal.{Literal}
 use Rattle.tables.specs.Rows.{Row, Refuses, LayoutFault, arity_over_four, argument_not_lower, HadOtherArity, EqualsEarlier, LiteralFault, side_not_one_or_two, kind_not_one_or_two, left_not_in_table, right_not_in_table, table_rows}
-use Rattle.tables.specs.Checks.{checked, number_of}
-use Rattle.tables.specs.Read.{sound_tables, refused_tables, tables_read}
-use Rattle.tables.specs.declared.Check.{Check}
-use Rattle.tables.specs.declared.Check.TheVariants.{Sound, Length, Count, Layout, Arity, Repeated, Literal as Broken}
+use Rattle.tables.specs.Checks.{Check, Sound, checked}
+use Rattle.tables.specs.Read.{sound_tables, unless_refused, tables_read}
+use Rattle.tables.specs.declared.Refusal.{Refusal}
+use Rattle.tables.specs.declared.Tables.{Tables}
 use Rattle.tables.proofs.Words.{decide, below_or_not, below_mem, mem_get_d, no_first}
 use Rattle.tables.proofs.Tests.{ne_test, not_unequal, not_above}
 use Rattle.tables.proofs.Faults.{breaks_layout_is, had_other_arity_is, equals_earlier_is, breaks_literal_is}
-use Rattle.tables.proofs.Rows.{sound_exactly}
+use Rattle.tables.proofs.Rows.{sound_exactly, sound_or_refused}
 use Rattle.tables.proofs.Colours.{SidesWithin}
 use Rattle.tables.proofs.Filled.{length_map_below, map_below_at}
 
@@ -68,17 +69,6 @@ sound bs ls e =
 -- a symbol of sound tables has one arity, the later record second
 pub later_arity : (bs ls : List ℕ) → SoundTables bs ls → (j k : ℕ) → j < k → k < term_count bs → symbol_field (term_record bs j) ≡ symbol_field (term_record bs k) → arity_field (term_record bs j) ≡ arity_field (term_record bs k)
 later_arity bs ls s j k h l e = (not_unequal (arity_field (term_record bs j)) (arity_field (term_record bs k))).0 (λ f. s.one_arity k l (j, h, (e, f)))
-
--- a check that is not sound has a number
-pub refused_number : (check : Check) → (check ≡ Sound → ⊥) → eqb (number_of check) 0 ≡ false
-unfolding number_of
-refused_number Sound f = absurd (f refl)
-refused_number (Length p) f = refl
-refused_number (Count p) f = refl
-refused_number (Layout p) f = refl
-refused_number (Arity p) f = refl
-refused_number (Repeated p) f = refl
-refused_number (Broken p) f = refl
 
 -- ---- the tables as lists
 
@@ -184,15 +174,18 @@ literal_at_is ls k d h = map_below_at (λ j. literal_of (literal_record ls j)) (
 -- ---- the tables as arrays
 
 -- tables that no row refuses are read as such
-pub sound_read : (bs ls : List ℕ) → checked bs ls ≡ Sound → tables_read bs ls ≡ sound_tables Sound bs ls
-unfolding tables_read number_of
-sound_read bs ls e = ap (λ (c : Check). cond (eqb (number_of c) 0) (sound_tables c bs ls) (refused_tables c)) e
+pub sound_read : (bs ls : List ℕ) → checked bs ls ≡ Sound → tables_read bs ls ≡ Ok (sound_tables bs ls)
+unfolding tables_read unless_refused
+sound_read bs ls e = ap (λ (c : Check). unless_refused c (sound_tables bs ls)) e
 
--- the tables that are read say what the checks say
-pub read_check : (bs ls : List ℕ) → (tables_read bs ls).check ≡ checked bs ls
-unfolding tables_read sound_tables refused_tables
-read_check bs ls = go (eqb (number_of (checked bs ls)) 0)
-  where
-    go : (b : Bool) → (cond b (sound_tables (checked bs ls) bs ls) (refused_tables (checked bs ls))).check ≡ checked bs ls
-    go true = refl
-    go false = refl
+-- and those that one refuses are refused by it
+pub refused_read : (bs ls : List ℕ) (r : Refusal) → checked bs ls ≡ Err r → tables_read bs ls ≡ Err r
+unfolding tables_read unless_refused
+refused_read bs ls r e = ap (λ (c : Check). unless_refused c (sound_tables bs ls)) e
+
+-- what is read says what the checks say
+pub read_check : (bs ls : List ℕ) → (t : Tables) → tables_read bs ls ≡ Ok t → checked bs ls ≡ Sound
+read_check bs ls t e = ⊎_elim (λ s. s) (λ w. absurd (let q : tables_read bs ls ≡ Err w.0 = refused_read bs ls w.0 w.1 in let z : ◌≡◌ {A = ℕ} 0 1 = cc in omega arith)) (sound_or_refused (checked bs ls))
+
+pub read_refused : (bs ls : List ℕ) → (r : Refusal) → tables_read bs ls ≡ Err r → checked bs ls ≡ Err r
+read_refused bs ls r e = ⊎_elim (λ s. absurd (let q : tables_read bs ls ≡ Ok (sound_tables bs ls) = sound_read bs ls s in let z : ◌≡◌ {A = ℕ} 0 1 = cc in omega arith)) (λ w. let q : tables_read bs ls ≡ Err w.0 = refused_read bs ls w.0 w.1 in w.1 ∙ cc) (sound_or_refused (checked bs ls))

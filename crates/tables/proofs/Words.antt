@@ -1,9 +1,10 @@
 -- Laws of the words of specs/Words.antt: each test says what it tests. Every layer cites them.
+use Rattle.std.proofs.Common.{Option, Some, None}
+use Rattle.std.proofs.lemmas.Option.{none-some}
 use mathlib.Core.Bool.{Bool, true, false, cond, not, ◌&&◌, ◌||◌}
 use mathlib.Core.List.Memᴰ
 use mathlib.Core.List.{List, [], ◌∷◌, ◌++◌, map, flat_map, append_assoc, append-nil, Memᴰ}
 use mathlib.Core.Logic.{◌↔◌, ◌⊎◌, inl, inr, ⊎_elim}
-use mathlib.Core.Option.{Option, some, none, none-ne-some}
 use mathlib.Core.Path.{◌≡◌, refl, sym, ap, ap₂, subst, ◌∙◌}
 use Prim.Native.Nat.{ℕ, zero, suc, ◌+◌, ◌≤◌, ◌<◌}
 use native.Mathlib.Nat.{not-suc-le-zero}
@@ -151,44 +152,45 @@ module _ {ℓ} {A : Type ℓ} where
   mem_get_d d (Memᴰ.head e) = (zero, omega arith, sym e)
   mem_get_d d (Memᴰ.tail m) = let r = mem_get_d d m in (suc r.0, omega (arith, r.1), r.2)
 
-  pub first_of_some : (p : A → Bool) (xs : List A) (x : A) → first_of p xs ≡ some x → Memᴰ x xs × T (p x)
+module _ {A : Type 0} where
+  pub first_of_some : (p : A → Bool) (xs : List A) (x : A) → first_of p xs ≡ Some x → Memᴰ x xs × T (p x)
   unfolding first_of
-  first_of_some p [] x e = absurd (none-ne-some x e)
+  first_of_some p [] x e = absurd (none-some x e)
   first_of_some p (y ∷ ys) x e = go (p y) refl e (λ k. first_of_some p ys x k)
     where
-      go : (b : Bool) → p y ≡ b → cond b (some y) (first_of p ys) ≡ some x → (first_of p ys ≡ some x → Memᴰ x ys × T (p x)) → Memᴰ x (y ∷ ys) × T (p x)
+      go : (b : Bool) → p y ≡ b → cond b (Some y) (first_of p ys) ≡ Some x → (first_of p ys ≡ Some x → Memᴰ x ys × T (p x)) → Memᴰ x (y ∷ ys) × T (p x)
       go true q k f = let w : x ≡ y = cc in (Memᴰ.head w, subst (λ z. T (p z)) (sym w) (passes (p y) q))
       go false q k f = (Memᴰ.tail (f k).0, (f k).1)
 
-  pub first_of_none : (p : A → Bool) {x : A} {xs : List A} → first_of p xs ≡ none → Memᴰ x xs → T (p x) → ⊥
+  pub first_of_none : (p : A → Bool) {x : A} {xs : List A} → first_of p xs ≡ None → Memᴰ x xs → T (p x) → ⊥
   unfolding first_of
   first_of_none p {x} e (Memᴰ.head {x = y} {xs = ys} q) h = go (p y) (subst (λ z. T (p z)) q h) e
     where
-      go : (b : Bool) → T b → cond b (some y) (first_of p ys) ≡ none → ⊥
+      go : (b : Bool) → T b → cond b (Some y) (first_of p ys) ≡ None → ⊥
       go true k w = let z : ◌≡◌ {A = ℕ} 0 1 = cc in omega arith
       go false k w = k
   first_of_none p {x} e (Memᴰ.tail {x = y} {xs = ys} m) h = go (p y) e (λ k. first_of_none p k m h)
     where
-      go : (b : Bool) → cond b (some y) (first_of p ys) ≡ none → (first_of p ys ≡ none → ⊥) → ⊥
+      go : (b : Bool) → cond b (Some y) (first_of p ys) ≡ None → (first_of p ys ≡ None → ⊥) → ⊥
       go true w f = let z : ◌≡◌ {A = ℕ} 0 1 = cc in omega arith
       go false w f = f w
 
   -- what stands behind is looked at where nothing passes before
-  pub first_of_behind : (p : A → Bool) (xs ys : List A) (x : A) → first_of p xs ≡ some x → first_of p (xs ++ ys) ≡ some x
+  pub first_of_behind : (p : A → Bool) (xs ys : List A) (x : A) → first_of p xs ≡ Some x → first_of p (xs ++ ys) ≡ Some x
   unfolding first_of
-  first_of_behind p [] ys x e = absurd (none-ne-some x e)
+  first_of_behind p [] ys x e = absurd (none-some x e)
   first_of_behind p (y ∷ xs) ys x e = go (p y) e (λ k. first_of_behind p xs ys x k)
     where
-      go : (b : Bool) → cond b (some y) (first_of p xs) ≡ some x → (first_of p xs ≡ some x → first_of p (xs ++ ys) ≡ some x) → cond b (some y) (first_of p (xs ++ ys)) ≡ some x
+      go : (b : Bool) → cond b (Some y) (first_of p xs) ≡ Some x → (first_of p xs ≡ Some x → first_of p (xs ++ ys) ≡ Some x) → cond b (Some y) (first_of p (xs ++ ys)) ≡ Some x
       go true q f = q
       go false q f = f q
 
-  pub first_of_past : (p : A → Bool) (xs ys : List A) → first_of p xs ≡ none → first_of p (xs ++ ys) ≡ first_of p ys
+  pub first_of_past : (p : A → Bool) (xs ys : List A) → first_of p xs ≡ None → first_of p (xs ++ ys) ≡ first_of p ys
   unfolding first_of
   first_of_past p [] ys e = refl
   first_of_past p (y ∷ xs) ys e = go (p y) e (λ k. first_of_past p xs ys k)
     where
-      go : (b : Bool) → cond b (some y) (first_of p xs) ≡ none → (first_of p xs ≡ none → first_of p (xs ++ ys) ≡ first_of p ys) → cond b (some y) (first_of p (xs ++ ys)) ≡ first_of p ys
+      go : (b : Bool) → cond b (Some y) (first_of p xs) ≡ None → (first_of p xs ≡ None → first_of p (xs ++ ys) ≡ first_of p ys) → cond b (Some y) (first_of p (xs ++ ys)) ≡ first_of p ys
       go true q f = let z : ◌≡◌ {A = ℕ} 0 1 = cc in absurd (omega arith)
       go false q f = f q
 
@@ -196,8 +198,9 @@ module _ {ℓ} {A : Type ℓ} where
   pub first_of_agree : (p q : A → Bool) (xs : List A) → ((x : A) → Memᴰ x xs → p x ≡ q x) → first_of p xs ≡ first_of q xs
   unfolding first_of
   first_of_agree p q [] f = refl
-  first_of_agree p q (x ∷ xs) f = ap₂ (λ (b : Bool) (o : Option A). cond b (some x) o) (f x (Memᴰ.head refl)) (first_of_agree p q xs (λ y m. f y (Memᴰ.tail m)))
+  first_of_agree p q (x ∷ xs) f = ap₂ (λ (b : Bool) (o : Option A). cond b (Some x) o) (f x (Memᴰ.head refl)) (first_of_agree p q xs (λ y m. f y (Memᴰ.tail m)))
 
+module _ {ℓ} {A : Type ℓ} where
   pub any_agree : (p q : A → Bool) (xs : List A) → ((x : A) → Memᴰ x xs → p x ≡ q x) → any p xs ≡ any q xs
   unfolding any
   any_agree p q [] f = refl
@@ -263,7 +266,7 @@ mem_below (suc n) k h = go (below_or_is k n h) (λ l. mem_below n k l)
 
 -- ---- some number, and the first number, below n
 
-some_one : {a b : ℕ} → some a ≡ some b → a ≡ b
+some_one : {a b : ℕ} → Some a ≡ Some b → a ≡ b
 some_one e = cc
 
 pub some_below_some : (p : ℕ → Bool) (n : ℕ) → T (some_below p n) → (k : ℕ) × (k < n) × T (p k)
@@ -285,21 +288,21 @@ some_below_agree p q n f = any_agree p q (below n) (λ k m. f k (below_mem n m))
 pub first_below_agree : (p q : ℕ → Bool) (n : ℕ) → ((k : ℕ) → k < n → p k ≡ q k) → first_below p n ≡ first_below q n
 first_below_agree p q n f = first_of_agree p q (below n) (λ k m. f k (below_mem n m))
 
-pub first_below_none : (p : ℕ → Bool) (n : ℕ) → first_below p n ≡ none → (k : ℕ) → k < n → T (p k) → ⊥
+pub first_below_none : (p : ℕ → Bool) (n : ℕ) → first_below p n ≡ None → (k : ℕ) → k < n → T (p k) → ⊥
 first_below_none p n e k h l = first_of_none p e (mem_below n k h) l
 
 -- the number that is found passes, and none before it does
-pub first_below_some : (p : ℕ → Bool) (n k : ℕ) → first_below p n ≡ some k → First (λ j. T (p j)) n k
+pub first_below_some : (p : ℕ → Bool) (n k : ℕ) → first_below p n ≡ Some k → First (λ j. T (p j)) n k
 unfolding below first_of
-first_below_some p zero k e = absurd (none-ne-some k e)
+first_below_some p zero k e = absurd (none-some k e)
 first_below_some p (suc n) k e = go (first_below p n) refl (λ q. first_below_some p n k q)
   where
-    go : (o : Option ℕ) → first_below p n ≡ o → (first_below p n ≡ some k → First (λ j. T (p j)) n k) → First (λ j. T (p j)) (suc n) k
-    go (some j) q f =
+    go : (o : Option ℕ) → first_below p n ≡ o → (first_below p n ≡ Some k → First (λ j. T (p j)) n k) → First (λ j. T (p j)) (suc n) k
+    go (Some j) q f =
         let y : j ≡ k = some_one (sym (first_of_behind p (below n) (n ∷ []) j q) ∙ e) in
-        let r = f (q ∙ ap some y) in
+        let r = f (q ∙ ap Some y) in
         record { within = omega (arith, r.within); such = r.such; none_before = r.none_before }
-    go none q f =
+    go None q f =
         let r = first_of_some p (n ∷ []) k (sym (first_of_past p (below n) (n ∷ []) q) ∙ e) in
         let y : k ≡ n = Memᴰ.eq_of_singleton r.0 in
         record { within = omega (arith, y); such = r.1; none_before = λ j h. first_below_none p n q j (omega (arith, y)) }
@@ -312,23 +315,23 @@ first_one P n k j x y =
     (λ e. by_test (ltb j k) (λ d. absurd (x.none_before j (ltb→lt j k (passes (ltb j k) d)) y.such)) (λ d. omega (arith, lib.Dec.nltb→le k j (fails (ltb k j) e), lib.Dec.nltb→le j k (fails (ltb j k) d))))
 
 -- a test finds the first number of which it says that it is such, and no other
-pub first_is : (p : ℕ → Bool) (P : ℕ → Type 0) → ((j : ℕ) → T (p j) ↔ P j) → (n k : ℕ) → (first_below p n ≡ some k) ↔ First P n k
+pub first_is : (p : ℕ → Bool) (P : ℕ → Type 0) → ((j : ℕ) → T (p j) ↔ P j) → (n k : ℕ) → (first_below p n ≡ Some k) ↔ First P n k
 first_is p P f n k = (λ e. such (first_below_some p n k e), λ x. go x (first_below p n) refl)
   where
     such : {j : ℕ} → First (λ i. T (p i)) n j → First P n j
     such {j} x = record { within = x.within; such = (f j).0 x.such; none_before = λ i h q. x.none_before i h ((f i).1 q) }
 
-    go : First P n k → (o : Option ℕ) → first_below p n ≡ o → first_below p n ≡ some k
-    go x (some j) e = e ∙ ap some (first_one P n j k (such (first_below_some p n j e)) x)
-    go x none e = absurd (first_below_none p n e k x.within ((f k).1 x.such))
+    go : First P n k → (o : Option ℕ) → first_below p n ≡ o → first_below p n ≡ Some k
+    go x (Some j) e = e ∙ ap Some (first_one P n j k (such (first_below_some p n j e)) x)
+    go x None e = absurd (first_below_none p n e k x.within ((f k).1 x.such))
 
 -- where no number is the first such, none below n is such
 pub no_first : (p : ℕ → Bool) (P : ℕ → Type 0) → ((j : ℕ) → T (p j) ↔ P j) → (n : ℕ) → ((k : ℕ) → First P n k → ⊥) → (k : ℕ) → k < n → P k → ⊥
 no_first p P f n none_is k h q = go (first_below p n) refl
   where
     go : (o : Option ℕ) → first_below p n ≡ o → ⊥
-    go (some j) e = none_is j ((first_is p P f n j).0 e)
-    go none e = first_below_none p n e k h ((f k).1 q)
+    go (Some j) e = none_is j ((first_is p P f n j).0 e)
+    go None e = first_below_none p n e k h ((f k).1 q)
 
 -- ---- pairs
 
@@ -400,26 +403,27 @@ module _ {ℓ} {A : Type ℓ} (p : A → Bool) where
   keep_none [] h = keep_empty
   keep_none (x ∷ xs) h = keep_fails x xs (h x (Memᴰ.head refl)) ∙ keep_none xs (λ y m. h y (Memᴰ.tail m))
 
-  pub first_of_empty : first_of p [] ≡ none
+module _ {A : Type 0} (p : A → Bool) where
+  pub first_of_empty : first_of p [] ≡ None
   unfolding first_of
   first_of_empty = refl
 
-  pub first_of_passes : (x : A) (xs : List A) → p x ≡ true → first_of p (x ∷ xs) ≡ some x
+  pub first_of_passes : (x : A) (xs : List A) → p x ≡ true → first_of p (x ∷ xs) ≡ Some x
   unfolding first_of
-  first_of_passes x xs e = ap (λ (b : Bool). cond b (some x) (first_of p xs)) e
+  first_of_passes x xs e = ap (λ (b : Bool). cond b (Some x) (first_of p xs)) e
 
   pub first_of_fails : (x : A) (xs : List A) → p x ≡ false → first_of p (x ∷ xs) ≡ first_of p xs
   unfolding first_of
-  first_of_fails x xs e = ap (λ (b : Bool). cond b (some x) (first_of p xs)) e
+  first_of_fails x xs e = ap (λ (b : Bool). cond b (Some x) (first_of p xs)) e
 
   -- nothing is found where no member passes
-  pub none_first_of : (xs : List A) → ((x : A) → Memᴰ x xs → T (p x) → ⊥) → first_of p xs ≡ none
+  pub none_first_of : (xs : List A) → ((x : A) → Memᴰ x xs → T (p x) → ⊥) → first_of p xs ≡ None
   none_first_of [] f = first_of_empty
   none_first_of (x ∷ xs) f =
       first_of_fails x xs (failed (p x) (not_T (p x) (f x (Memᴰ.head refl)))) ∙ none_first_of xs (λ y m. f y (Memᴰ.tail m))
 
   -- a member that passes behind members that fail is the first
-  pub first_of_is : (xs : List A) (x : A) (ys : List A) → ((y : A) → Memᴰ y xs → T (p y) → ⊥) → T (p x) → first_of p (xs ++ (x ∷ ys)) ≡ some x
+  pub first_of_is : (xs : List A) (x : A) (ys : List A) → ((y : A) → Memᴰ y xs → T (p y) → ⊥) → T (p x) → first_of p (xs ++ (x ∷ ys)) ≡ Some x
   first_of_is [] x ys f h = first_of_passes x ys (passed (p x) h)
   first_of_is (z ∷ xs) x ys f h =
       first_of_fails z (xs ++ (x ∷ ys)) (failed (p z) (not_T (p z) (f z (Memᴰ.head refl)))) ∙ first_of_is xs x ys (λ y m. f y (Memᴰ.tail m)) h

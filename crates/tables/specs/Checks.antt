@@ -1,24 +1,23 @@
 -- 01, "What comes back", rows 1 to 6: "Checks run in the order of the rows, each over its whole table before the next; in rows 1, 2 and 7 the lower
 -- place first."
-use Rattle.std.specs.Prelude.{Bool, cond, not, List, ℕ, ◌%◌, length, eqb, ltb}
-use Rattle.std.proofs.Math.Option.{Option, some, none}
+use Rattle.std.specs.Prelude.{Bool, cond, not, List, ℕ, ◌%◌, length, eqb, ltb, Option, Some, None, Result, Ok, Err}
 use Rattle.tables.specs.Words.{first_below}
 use Rattle.tables.specs.TermTable.{term_count}
 use Rattle.tables.specs.Tests.{breaks_layout, had_other_arity, equals_earlier, breaks_literal}
 use Rattle.tables.specs.LiteralTable.{literal_count}
-use Rattle.tables.specs.declared.Found.{Found}
-use Rattle.tables.specs.declared.Found.TheVariants.{At, Nothing}
-use Rattle.tables.specs.declared.Check.{Check}
-use Rattle.tables.specs.declared.Check.TheVariants.{Sound, Length, Count, Layout, Arity, Repeated, Literal}
+use Rattle.tables.specs.declared.Refusal.{Refusal}
+use Rattle.tables.specs.declared.Refusal.TheVariants.{Length, Count, Layout, Arity, Repeated, Literal}
 
--- what the code finds, as an option
-abbrev pub found_of : Found → Option ℕ
-found_of (At place) = some place
-found_of Nothing = none
+-- what the checks say: the tables are sound, or a row refuses them
+abbrev pub Check : Type 0
+Check = Result (Unit {0}) Refusal
+
+abbrev pub Sound : Check
+Sound = Ok tt
 
 -- of two places the lower first: 0 for the terms, 1 for the literals
 unfoldable pub place_of : Bool → Bool → Option ℕ
-place_of terms literals = cond terms (some 0) (cond literals (some 1) none)
+place_of terms literals = cond terms (Some 0) (cond literals (Some 1) None)
 
 -- row 1: "length not a multiple of 16 (terms) or 8 (literals)"
 unfoldable pub length_row : List ℕ → List ℕ → Option ℕ
@@ -47,9 +46,9 @@ unfoldable pub literal_row : List ℕ → List ℕ → Option ℕ
 literal_row ts ls = first_below (breaks_literal (term_count ts) ls) (literal_count ls)
 
 -- a row that names a place refuses there; else the next row is asked
-unfoldable pub refuse : (ℕ → Check) → Option ℕ → Check → Check
-refuse row (some place) next = row place
-refuse row none next = next
+unfoldable pub refuse : (ℕ → Refusal) → Option ℕ → Check → Check
+refuse row (Some place) next = Err (row place)
+refuse row None next = next
 
 -- "Checks run in the order of the rows"
 unfoldable pub checked : List ℕ → List ℕ → Check
@@ -62,9 +61,8 @@ checked ts ls =
     (refuse Repeated (repeated_row ts)
     (refuse Literal (literal_row ts ls) Sound)))))
 
--- the number of a refusal in 01's list, 0 where there is none
-unfoldable pub number_of : Check → ℕ
-number_of Sound = 0
+-- the number of a refusal in 01's list
+unfoldable pub number_of : Refusal → ℕ
 number_of (Length p) = 1
 number_of (Count p) = 2
 number_of (Layout p) = 3
@@ -72,9 +70,8 @@ number_of (Arity p) = 4
 number_of (Repeated p) = 5
 number_of (Literal p) = 6
 
--- the place of a refusal, 0 where there is none
-unfoldable pub place_in : Check → ℕ
-place_in Sound = 0
+-- the place of a refusal
+unfoldable pub place_in : Refusal → ℕ
 place_in (Length p) = p
 place_in (Count p) = p
 place_in (Layout p) = p

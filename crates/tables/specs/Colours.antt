@@ -2,7 +2,8 @@
 use Rattle.std.specs.Prelude.{Bool, ◌&&◌, List, ◌++◌, ℕ}
 use Rattle.tables.specs.Words.{any, every, among}
 use Rattle.tables.specs.Terms.{Term, parts, symbols}
-use Rattle.tables.specs.LiteralTable.{Side, A, B, same_side, Literal}
+use Rattle.tables.specs.LiteralTable.{Side, A, B, same_side}
+use Rattle.tables.specs.declared.Literal.{Literal}
 
 -- "Terms in use are the sides of all literals and, repeatedly, their arguments."
 unfoldable pub is_in_use : List Term → List Literal → ℕ → Bool

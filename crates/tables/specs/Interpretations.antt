@@ -3,7 +3,10 @@
 use mathlib.Core.List.{List, Memᴰ}
 use Rattle.std.specs.Prelude.{◌≡◌, ℕ}
 use Rattle.tables.specs.Terms.{Term, down}
-use Rattle.tables.specs.LiteralTable.{Side, A, B, Kind, equal, different, Literal}
+use Rattle.tables.specs.LiteralTable.{Side, A, B}
+use Rattle.tables.specs.declared.Literal.{Literal}
+use Rattle.tables.specs.declared.Kind.{Kind}
+use Rattle.tables.specs.declared.Kind.TheVariants.{Equal, Different}
 
 -- The domain is a part of a carrier. It has a member, and no function leads out of it.
 pub record Interpretation : Type 1 where
@@ -24,8 +27,8 @@ value I = down (λ t term values. I.function term.symbol values) I.member
 
 -- a literal of kind 1 holds when its sides have one value, one of kind 2 when they do not
 unfoldable pub HoldsAs : (I : Interpretation) → List Term → Kind → ℕ → ℕ → Type 0
-HoldsAs I ts equal s t = value I ts s ≡ value I ts t
-HoldsAs I ts different s t = value I ts s ≡ value I ts t → ⊥
+HoldsAs I ts Equal s t = value I ts s ≡ value I ts t
+HoldsAs I ts Different s t = value I ts s ≡ value I ts t → ⊥
 
 unfoldable pub Holds : (I : Interpretation) → List Term → Literal → Type 0
 Holds I ts l = HoldsAs I ts l.kind l.left l.right
@@ -36,7 +39,7 @@ Satisfies I ts ls X = (l : Literal) → Memᴰ l ls → l.side ≡ X → Holds I
 
 -- the interpretation satisfies the equalities: every literal of kind 1 holds, of either side
 abbrev pub SatisfiesEqualities : (I : Interpretation) → List Term → List Literal → Type 0
-SatisfiesEqualities I ts ls = (l : Literal) → Memᴰ l ls → l.kind ≡ equal → Holds I ts l
+SatisfiesEqualities I ts ls = (l : Literal) → Memᴰ l ls → l.kind ≡ Equal → Holds I ts l
 
 -- some interpretation satisfies A and B
 abbrev pub Satisfiable : List Term → List Literal → Type 1

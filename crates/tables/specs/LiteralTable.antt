@@ -2,9 +2,12 @@
 use Rattle.std.specs.Prelude.{Bool, true, false, cond, List, map, ℕ, eqb}
 use Rattle.tables.specs.Words.{below}
 use Rattle.tables.specs.Bytes.{byte_at, word_at, count_of, record_at}
--- a literal is marked A or B
+-- a literal is marked A or B, and its sides are equal or different
 pub use Rattle.tables.specs.declared.Side.{Side}
 pub use Rattle.tables.specs.declared.Side.TheVariants.{A, B}
+use Rattle.tables.specs.declared.Kind.{Kind}
+use Rattle.tables.specs.declared.Kind.TheVariants.{Equal, Different}
+use Rattle.tables.specs.declared.Literal.{Literal}
 
 abbrev pub same_side : Side → Side → Bool
 same_side A A = true
@@ -12,18 +15,9 @@ same_side A B = false
 same_side B A = false
 same_side B B = true
 
-pub data Kind : Type 0 where
-  equal different : Kind
-
 abbrev pub is_equal : Kind → Bool
-is_equal equal = true
-is_equal different = false
-
-pub record Literal : Type 0 where
-  pub side : Side
-  pub kind : Kind
-  pub left : ℕ
-  pub right : ℕ
+is_equal Equal = true
+is_equal Different = false
 
 -- how many literal records the table has
 abbrev pub literal_count : List ℕ → ℕ
@@ -37,7 +31,7 @@ literal_record bs k = record_at 8 bs k
 unfoldable pub literal_of : List ℕ → Literal
 literal_of r =
     let side = cond (eqb (byte_at r 0) 1) A B in
-    let kind = cond (eqb (byte_at r 1) 1) equal different in
+    let kind = cond (eqb (byte_at r 1) 1) Equal Different in
     record { side = side; kind = kind; left = word_at r 2; right = word_at r 4 }
 
 -- the table read, in the order of its records

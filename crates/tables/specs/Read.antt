@@ -1,12 +1,13 @@
 -- What the layers above work on: the terms read into arrays, with what the literals say of them. Past the count an array holds 0, or false.
-use Rattle.std.specs.Prelude.{false, cond, List, [], ◌∷◌, ◌++◌, map, ℕ, ◌+◌, ◌-◌, min, eqb, replicate}
+use Rattle.std.specs.Prelude.{false, cond, List, [], ◌∷◌, ◌++◌, map, ℕ, ◌+◌, ◌-◌, min, replicate, Result, Ok, Err}
 use Rattle.tables.specs.Words.{below}
 use Rattle.tables.specs.Terms.{Term}
 use Rattle.tables.specs.TermTable.{term_count, term_record, symbol_field, arity_field, row_of, terms_of}
-use Rattle.tables.specs.LiteralTable.{A, B, Literal, literals_of}
+use Rattle.tables.specs.LiteralTable.{A, B, literals_of}
+use Rattle.tables.specs.declared.Literal.{Literal}
 use Rattle.tables.specs.Colours.{is_in_use, colourable}
-use Rattle.tables.specs.Checks.{checked, number_of}
-use Rattle.tables.specs.declared.Check.{Check}
+use Rattle.tables.specs.Checks.{Check, checked}
+use Rattle.tables.specs.declared.Refusal.{Refusal}
 use Rattle.tables.specs.declared.Tables.{Tables}
 
 -- an array of a size: what f says of each number below n, as many as fit, and the filler behind
@@ -23,36 +24,25 @@ unfolding filled
 argument_rows bs = filled 256 (0 ∷ 0 ∷ 0 ∷ 0 ∷ []) (term_count bs) (λ k. row_of (term_record bs k))
 
 -- the tables where nothing refuses them
-unfoldable pub sound_tables : Check → List ℕ → List ℕ → Tables
-unfolding filled colour_number
-sound_tables check bs ls =
+unfoldable pub sound_tables : List ℕ → List ℕ → Tables
+unfolding filled colour_number argument_rows
+sound_tables bs ls =
     let n = term_count bs in
     record {
-      check = check;
       terms = n;
       symbols = filled 256 0 n (λ k. symbol_field (term_record bs k));
       arities = filled 256 0 n (λ k. arity_field (term_record bs k));
+      rows = argument_rows bs;
       used = filled 256 false n (is_in_use (terms_of bs) (literals_of ls));
       colours = filled 256 0 n (colour_number (terms_of bs) (literals_of ls) (terms_of bs));
     }
 
--- the tables where a row refuses them
-unfoldable pub refused_tables : Check → Tables
-refused_tables check =
-    record {
-      check = check;
-      terms = 0;
-      symbols = replicate 256 0;
-      arities = replicate 256 0;
-      used = replicate 256 false;
-      colours = replicate 256 0;
-    }
+-- the tables where the checks say that they are sound, else the row that refuses
+unfoldable pub unless_refused : Check → Tables → Result Tables Refusal
+unless_refused (Ok sound) t = Ok t
+unless_refused (Err row) t = Err row
 
 -- any two byte strings, read
-unfoldable pub tables_read : List ℕ → List ℕ → Tables
-unfolding sound_tables refused_tables
-tables_read bs ls =
-    let check = checked bs ls in
-    let sound = sound_tables check bs ls in
-    let refused = refused_tables check in
-    cond (eqb (number_of check) 0) sound refused
+unfoldable pub tables_read : List ℕ → List ℕ → Result Tables Refusal
+unfolding sound_tables unless_refused
+tables_read bs ls = unless_refused (checked bs ls) (sound_tables bs ls)

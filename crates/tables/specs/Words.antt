@@ -1,7 +1,6 @@
 -- The words that document 01's sentences use of numbers and lists: some, every, the first, below.
-use Rattle.std.specs.Prelude.{Bool, true, false, cond, ◌&&◌, ◌||◌, ℕ, zero, suc, ◌<◌, eqb, ltb}
+use Rattle.std.specs.Prelude.{Bool, true, false, cond, ◌&&◌, ◌||◌, ℕ, zero, suc, ◌<◌, eqb, ltb, Option, Some, None}
 use mathlib.Core.List.{List, [], ◌∷◌, ◌++◌, map, flat_map}
-use Rattle.std.proofs.Math.Option.{Option, some, none}
 
 -- the numbers below n, ascending
 unfoldable pub below : ℕ → List ℕ
@@ -35,9 +34,9 @@ same (x ∷ xs) [] = false
 same (x ∷ xs) (y ∷ ys) = eqb x y && same xs ys
 
 -- the first member that passes the test
-unfoldable pub first_of {ℓ} : {A : Type ℓ} → (A → Bool) → List A → Option A
-first_of p [] = none
-first_of p (x ∷ xs) = cond (p x) (some x) (first_of p xs)
+unfoldable pub first_of : {A : Type 0} → (A → Bool) → List A → Option A
+first_of p [] = None
+first_of p (x ∷ xs) = cond (p x) (Some x) (first_of p xs)
 
 -- the first number below n that passes the test
 abbrev pub first_below : (ℕ → Bool) → ℕ → Option ℕ

@@ -2,17 +2,44 @@
 
 #![tactic(auto)]
 
+// "Term record, 16 bytes".
+pub const TERM_BYTES: usize = 16;
+
+// "Literal record, 8 bytes".
+pub const LITERAL_BYTES: usize = 8;
+
+// "over 256 terms or 1,024 literals": so many terms a table may have.
+pub const TERMS: usize = 256;
+
+// And so many literals.
+pub const LITERALS: usize = 1024;
+
 // A literal is marked A or B, and so is an edge of the graph.
-#[derive(Clone, Copy)]
+#[derive(Clone, Copy, Debug, PartialEq, Eq)]
 pub enum Side {
     A,
     B,
 }
 
-// What the checks of rows 1 to 6 say: sound, or the row that refuses, with its place.
-#[derive(Clone, Copy)]
-pub enum Check {
-    Sound,
+// "kind (1 equal, 2 different)"
+#[derive(Clone, Copy, Debug, PartialEq, Eq)]
+pub enum Kind {
+    Equal,
+    Different,
+}
+
+// A literal: its sides are term numbers.
+#[derive(Clone, Copy, Debug, PartialEq, Eq)]
+pub struct Literal {
+    pub side: Side,
+    pub kind: Kind,
+    pub left: u16,
+    pub right: u16,
+}
+
+// The row of the checks 1 to 6 that refuses the tables, with its place.
+#[derive(Clone, Copy, Debug, PartialEq, Eq)]
+pub enum Refusal {
     Length(usize),
     Count(usize),
     Layout(usize),
@@ -21,22 +48,15 @@ pub enum Check {
     Literal(usize),
 }
 
-// The place that a row refuses at, if it refuses.
-#[derive(Clone, Copy)]
-pub enum Found {
-    At(usize),
-    Nothing,
-}
-
-// The tables as they were read; where they are refused, only the check says something and all else is 0. Past the count the arrays
-// hold 0. The arguments stand beside this struct, as an array of rows of four; the literals stay in their bytes, where each layer
-// reads them.
-#[derive(Clone, Copy)]
+// The tables that no row refuses, as they were read. Past the count the arrays hold 0. The literals stay in their bytes, where each
+// layer reads them. The columns stay columns, no records of a term: functions are lent one column alone, loops without an early end
+// run over one, so that the machine compares many entries at a time, and `sound_tables` promises each.
+#[derive(Clone, Copy, Debug, PartialEq, Eq)]
 pub struct Tables {
-    pub check: Check,
     pub terms: usize,
-    pub symbols: [u16; 256],
-    pub arities: [u8; 256],
-    pub used: [bool; 256],
-    pub colours: [u8; 256],
+    pub symbols: [u16; TERMS],
+    pub arities: [u8; TERMS],
+    pub rows: [[u16; 4]; TERMS],
+    pub used: [bool; TERMS],
+    pub colours: [u8; TERMS],
 }

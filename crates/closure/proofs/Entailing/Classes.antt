@@ -10,7 +10,9 @@ use lib.Dec.{T, ltb, ltb→lt, lt→ltb}
 use lib.ListN.{length, length-append}
 use Rattle.tables.specs.Terms.{Term, term_at}
 use Rattle.tables.specs.Parts.{LowerArguments}
-use Rattle.tables.specs.LiteralTable.{Kind, equal, different, Literal}
+use Rattle.tables.specs.declared.Literal.{Literal}
+use Rattle.tables.specs.declared.Kind.{Kind}
+use Rattle.tables.specs.declared.Kind.TheVariants.{Equal, Different}
 use Rattle.tables.specs.declared.Side.{Side}
 use Rattle.tables.specs.declared.Side.TheVariants.{A, B}
 use Rattle.tables.specs.Colours.{is_in_use}
@@ -49,13 +51,13 @@ satisfies_all I ts ls a b l m = go l.side refl
     go B e = b l m e
 
 -- a disequality that holds has sides of two values
-pub holds_different : (I : Interpretation) (ts : List Term) (l : Literal) → l.kind ≡ different → Holds I ts l → value I ts l.left ≡ value I ts l.right → ⊥
+pub holds_different : (I : Interpretation) (ts : List Term) (l : Literal) → l.kind ≡ Different → Holds I ts l → value I ts l.left ≡ value I ts l.right → ⊥
 unfolding Holds HoldsAs
 holds_different I ts l e h = subst (λ (k : Kind). HoldsAs I ts k l.left l.right) e h
 
 -- no disequality has its sides joined
 abbrev pub Apart : List Literal → Graph → Type 0
-Apart ls G = (l : Literal) → Memᴰ l ls → l.kind ≡ different → T (joined G l.left l.right) → ⊥
+Apart ls G = (l : Literal) → Memᴰ l ls → l.kind ≡ Different → T (joined G l.left l.right) → ⊥
 
 -- ---- what is joined is what is entailed
 
@@ -63,7 +65,7 @@ Apart ls G = (l : Literal) → Memᴰ l ls → l.kind ≡ different → T (joine
 pub record Ended (ts : List Term) (ls : List Literal) (st : State) : Type 0 where
   pub lower : LowerArguments (table_of ts st)
   pub closed : (v a : ℕ) → T (vertex ts ls st v) → Memᴰ a (term_at (table_of ts st) v).arguments → T (vertex ts ls st a)
-  pub equals : (l : Literal) → Memᴰ l ls → l.kind ≡ equal → T (joined st.graph l.left l.right)
+  pub equals : (l : Literal) → Memᴰ l ls → l.kind ≡ Equal → T (joined st.graph l.left l.right)
   pub congruents : (u v : ℕ) → T (vertex ts ls st u) → T (vertex ts ls st v) → T (congruent (table_of ts st) st.graph u v) → T (joined st.graph u v)
 
 module _ (ts : List Term) (ls : List Literal) (st : State) (sides : SidesWithin ts ls) (ended : Ended ts ls st) where

@@ -1,9 +1,9 @@
 -- When no step is left, a finite interpretation gives two vertices one value exactly when they are joined. Nothing here speaks of runs: the graph is
 -- any in which congruent vertices are joined.
+use Rattle.std.proofs.Common.{Option, Some, None}
 use mathlib.Core.Bool.{Bool, ◌&&◌}
 use mathlib.Core.List.Memᴰ
 use mathlib.Core.List.{List, [], ◌∷◌, ◌++◌, map, Memᴰ}
-use mathlib.Core.Option.{Option, some, none}
 use mathlib.Core.Path.{◌≡◌, refl, sym, ap, subst, ◌∙◌}
 use Prim.Native.Nat.{ℕ, zero, suc, ◌<◌}
 use native.Mathlib.Nat.{le_refl, not-suc-le-zero}
@@ -13,7 +13,9 @@ use lib.ListN.{length}
 use Rattle.tables.specs.Words.{below, same, first_below}
 use Rattle.tables.specs.Terms.{Term, term_at}
 use Rattle.tables.specs.Parts.{LowerArguments}
-use Rattle.tables.specs.LiteralTable.{Kind, equal, different, Literal}
+use Rattle.tables.specs.declared.Literal.{Literal}
+use Rattle.tables.specs.declared.Kind.{Kind}
+use Rattle.tables.specs.declared.Kind.TheVariants.{Equal, Different}
 use Rattle.tables.specs.declared.Side.{Side}
 use Rattle.tables.specs.Interpretations.{Interpretation, Finite, value, HoldsAs, Holds, Satisfies, SatisfiesEqualities}
 use Rattle.tables.proofs.Words.{and_left, and_right, and_both, same_eq, same_self, mem_below, first_below_some, first_below_none}
@@ -48,8 +50,8 @@ fits table G vertex f xs v = vertex v && (eqb (term_at table v).symbol f && same
 
 -- the label of the vertex that is found, or else the extra value
 unfoldable pub label_or : Graph → ℕ → Option ℕ → ℕ
-label_or G extra (some v) = label G v
-label_or G extra none = extra
+label_or G extra (Some v) = label G v
+label_or G extra None = extra
 
 -- the function of a symbol: at the labels of a vertex's arguments it is the vertex's label, and elsewhere the extra value
 unfoldable pub class_function : List Term → Graph → (ℕ → Bool) → ℕ → List ℕ → ℕ
@@ -66,8 +68,8 @@ unfolding class_function label_or
 class_function_in table G vertex f xs = go (first_below (fits table G vertex f xs) (length table)) refl
   where
     go : (o : Option ℕ) → first_below (fits table G vertex f xs) (length table) ≡ o → Memᴰ (label_or G (length table) o) (classes table G)
-    go (some v) e = Memᴰ.tail (Memᴰ.map (label G) (mem_below (length table) v (first_below_some (fits table G vertex f xs) (length table) v e).within))
-    go none e = Memᴰ.head refl
+    go (Some v) e = Memᴰ.tail (Memᴰ.map (label G) (mem_below (length table) v (first_below_some (fits table G vertex f xs) (length table) v e).within))
+    go None e = Memᴰ.head refl
 
 -- the interpretation whose values are the labels
 abbrev pub model : List Term → Graph → (ℕ → Bool) → Interpretation
@@ -114,8 +116,8 @@ module _ (table : List Term) (low : LowerArguments table) (G : Graph) (vertex : 
       test = fits table G vertex (term_at table v).symbol (map (label G) (term_at table v).arguments)
 
       go : (o : Option ℕ) → first_below test (length table) ≡ o → label_or G (length table) o ≡ label G v
-      go (some w) e = fits_label v w h (first_below_some test (length table) w e).such
-      go none e = absurd (first_below_none test (length table) e v (within v h) (fits_self v h))
+      go (Some w) e = fits_label v w h (first_below_some test (length table) w e).such
+      go None e = absurd (first_below_none test (length table) e v (within v h) (fits_self v h))
 
   -- the same, by induction on a bound: a vertex's arguments are lower vertices
   value_below : (d v : ℕ) → v < d → T (vertex v) → value (model table G vertex) table v ≡ label G v
@@ -144,7 +146,7 @@ module _ (ts more : List Term) (ls : List Literal) (low : LowerArguments (ts ++ 
   pub joined_given : (u v : ℕ) → u < length ts → v < length ts → T (vertex u) → T (vertex v) → T (joined G u v) → value (model (ts ++ more) G vertex) ts u ≡ value (model (ts ++ more) G vertex) ts v
   joined_given u v a b h k e = given_value u a h ∙ joined_label G u v e ∙ sym (given_value v b k)
 
-  module _ (sides : SidesWithin ts ls) (sides_vertex : (l : Literal) → Memᴰ l ls → T (vertex l.left) × T (vertex l.right)) (equals : (l : Literal) → Memᴰ l ls → l.kind ≡ equal → T (joined G l.left l.right)) where
+  module _ (sides : SidesWithin ts ls) (sides_vertex : (l : Literal) → Memᴰ l ls → T (vertex l.left) × T (vertex l.right)) (equals : (l : Literal) → Memᴰ l ls → l.kind ≡ Equal → T (joined G l.left l.right)) where
     -- the model satisfies the equalities, where each has its sides joined
     pub model_equalities : SatisfiesEqualities (model (ts ++ more) G vertex) ts ls
     unfolding Holds HoldsAs
@@ -153,13 +155,13 @@ module _ (ts more : List Term) (ls : List Literal) (low : LowerArguments (ts ++ 
         (joined_given l.left l.right (sides l m).0 (sides l m).1 (sides_vertex l m).0 (sides_vertex l m).1 (equals l m e))
 
     -- it satisfies A and B, where moreover no disequality has its sides joined
-    pub model_satisfies : ((l : Literal) → Memᴰ l ls → l.kind ≡ different → T (joined G l.left l.right) → ⊥) → (X : Side) → Satisfies (model (ts ++ more) G vertex) ts ls X
+    pub model_satisfies : ((l : Literal) → Memᴰ l ls → l.kind ≡ Different → T (joined G l.left l.right) → ⊥) → (X : Side) → Satisfies (model (ts ++ more) G vertex) ts ls X
     unfolding Holds HoldsAs
     model_satisfies apart X l m s = go l.kind refl
       where
         go : (k : Kind) → l.kind ≡ k → HoldsAs (model (ts ++ more) G vertex) ts k l.left l.right
-        go equal e = joined_given l.left l.right (sides l m).0 (sides l m).1 (sides_vertex l m).0 (sides_vertex l m).1 (equals l m e)
-        go different e = λ q. apart l m e (given_joined l.left l.right (sides l m).0 (sides l m).1 (sides_vertex l m).0 (sides_vertex l m).1 q)
+        go Equal e = joined_given l.left l.right (sides l m).0 (sides l m).1 (sides_vertex l m).0 (sides_vertex l m).1 (equals l m e)
+        go Different e = λ q. apart l m e (given_joined l.left l.right (sides l m).0 (sides l m).1 (sides_vertex l m).0 (sides_vertex l m).1 q)
 
     -- two given vertices are joined, where every finite interpretation that satisfies the equalities gives them one value
     pub entailed_joined : (u v : ℕ) → u < length ts → v < length ts → T (vertex u) → T (vertex v) → ((I : Interpretation) → Finite I → SatisfiesEqualities I ts ls → value I ts u ≡ value I ts v) → T (joined G u v)

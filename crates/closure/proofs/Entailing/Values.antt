@@ -7,7 +7,9 @@ use Prim.Native.Nat.{ℕ}
 use lib.Dec.{T}
 use Rattle.tables.specs.Terms.{Term}
 use Rattle.tables.specs.Parts.{LowerArguments}
-use Rattle.tables.specs.LiteralTable.{Kind, equal, Literal}
+use Rattle.tables.specs.declared.Literal.{Literal}
+use Rattle.tables.specs.declared.Kind.{Kind}
+use Rattle.tables.specs.declared.Kind.TheVariants.{Equal}
 use Rattle.tables.specs.Interpretations.{Interpretation, value, HoldsAs, Holds, SatisfiesEqualities}
 use Rattle.tables.proofs.Terms.{value_append}
 use Rattle.tables.proofs.Colours.{SidesWithin}
@@ -38,13 +40,13 @@ module _ {X : Type 0} (f : ℕ → X) where
   joined_agrees G each u v j = sym (label_agrees G each u) ∙ ap f (joined_label G u v j) ∙ label_agrees G each v
 
 -- a literal of kind 1 that holds gives its sides one value
-pub holds_equal : (I : Interpretation) (ts : List Term) (l : Literal) → l.kind ≡ equal → Holds I ts l → value I ts l.left ≡ value I ts l.right
+pub holds_equal : (I : Interpretation) (ts : List Term) (l : Literal) → l.kind ≡ Equal → Holds I ts l → value I ts l.left ≡ value I ts l.right
 unfolding Holds HoldsAs
 holds_equal I ts l e h = subst (λ (k : Kind). HoldsAs I ts k l.left l.right) e h
 
 module _ (ts : List Term) (ls : List Literal) (low : LowerArguments ts) (within : SidesWithin ts ls) (I : Interpretation) (holds : SatisfiesEqualities I ts ls) where
   -- the sides of an equality have one value in a larger table too
-  pub sides_value : (more : List Term) (l : Literal) → Memᴰ l ls → l.kind ≡ equal → (s t : ℕ) → HasSides l s t → value I (ts ++ more) s ≡ value I (ts ++ more) t
+  pub sides_value : (more : List Term) (l : Literal) → Memᴰ l ls → l.kind ≡ Equal → (s t : ℕ) → HasSides l s t → value I (ts ++ more) s ≡ value I (ts ++ more) t
   sides_value more l m k s t h = ⊎_elim (λ q. sym (ap V' q.0) ∙ same ∙ ap V' q.1) (λ q. sym (ap V' q.1) ∙ sym same ∙ ap V' q.0) h
     where
       V' : ℕ → I.Carrier

@@ -10,7 +10,7 @@ use lib.Dec.{T, T_not, not_T}
 use lib.ListN.{length, length-append}
 use Rattle.tables.specs.Terms.{Term, term_at}
 use Rattle.tables.specs.Parts.{LowerArguments}
-use Rattle.tables.specs.LiteralTable.{Literal}
+use Rattle.tables.specs.declared.Literal.{Literal}
 use Rattle.tables.specs.declared.Side.{Side}
 use Rattle.tables.specs.declared.Side.TheVariants.{A, B}
 use Rattle.tables.proofs.Words.{by_test, passes, fails, passed, failed}

@@ -1,8 +1,8 @@
 -- "With any term in use a run has fewer steps than there are such terms": so the turns of the library's own run are enough.
+use Rattle.std.proofs.Common.{Some}
 use mathlib.Core.Bool.{Bool, true, false, cond}
 use mathlib.Core.List.{List, [], ◌∷◌, ◌++◌, Memᴰ}
 use mathlib.Core.Logic.{⊎_elim}
-use mathlib.Core.Option.{some}
 use mathlib.Core.Path.{◌≡◌, refl, sym, ap}
 use Prim.Native.Nat.{ℕ, zero, suc, ◌+◌, ◌≤◌, ◌<◌}
 use native.Mathlib.Nat.{le_refl}
@@ -12,7 +12,7 @@ use lib.ListN.{length, length-append}
 use Rattle.tables.specs.Words.{below, keep}
 use Rattle.tables.specs.Terms.{Term}
 use Rattle.tables.specs.Parts.{LowerArguments}
-use Rattle.tables.specs.LiteralTable.{Literal}
+use Rattle.tables.specs.declared.Literal.{Literal}
 use Rattle.tables.specs.Colours.{is_in_use}
 use Rattle.tables.proofs.Words.{mem_keep, below_mem, mem_below, below_or_is, length_below}
 use Rattle.tables.proofs.Colours.{SidesWithin}
@@ -140,5 +140,5 @@ module _ (ts : List Term) (ls : List Literal) (low : LowerArguments ts) (within 
       go (x ∷ G) e ends = omega (arith, edges_few ts ls st (run_sound ts ls low within run) x.left ends.0.0, few_added h run, used_given)
 
   -- at the end of the library's own run no step is left
-  pub own_run_complete : (st : State) → own_run ts ls ≡ some st → NoStepLeft ts ls st
+  pub own_run_complete : (st : State) → own_run ts ls ≡ Some st → NoStepLeft ts ls st
   own_run_complete st q = own_run_no_step_left ts ls low within few_steps st q

@@ -1,8 +1,8 @@
 -- A middle step keeps what holds of every state: the middle term is shared, its arguments are vertices, and both ends are congruent to it.
+use Rattle.std.proofs.Common.{Option, Some, None}
 use mathlib.Core.Bool.{◌&&◌}
 use mathlib.Core.List.{List, [], ◌∷◌, ◌++◌, append_assoc, append-nil, Memᴰ}
 use mathlib.Core.Logic.{◌⊎◌, inl, inr, ⊎_elim}
-use mathlib.Core.Option.{Option, some, none}
 use mathlib.Core.Path.{◌≡◌, refl, sym, ap, subst, ◌∙◌}
 use Prim.Native.Nat.{ℕ, suc, ◌≤◌, ◌<◌}
 use native.Mathlib.Omega.{arith}
@@ -12,7 +12,7 @@ use lib.Seq.{get_or-append_seam}
 use Rattle.tables.specs.Words.{same}
 use Rattle.tables.specs.Terms.{Term, no_term, term_at}
 use Rattle.tables.specs.Parts.{LowerArguments}
-use Rattle.tables.specs.LiteralTable.{Literal}
+use Rattle.tables.specs.declared.Literal.{Literal}
 use Rattle.tables.specs.declared.Side.{Side}
 use Rattle.tables.specs.declared.Side.TheVariants.{A, B}
 use Rattle.tables.specs.Colours.{occurs_in, colourable, shared}
@@ -155,10 +155,10 @@ unfolding placed place_as vertex_equal
 placed_either ts ls st m P f g = go (vertex_equal ts ls st m) refl
   where
     go : (o : Option ℕ) → vertex_equal ts ls st m ≡ o → P (place_as ts st m o)
-    go (some v) q =
+    go (Some v) q =
         let h = (first_below_some (λ (v : ℕ). vertex ts ls st v && equal_terms (term_at (table_of ts st) v) m) (length (table_of ts st)) v q).such in
         f v (and_left (vertex ts ls st v) (equal_terms (term_at (table_of ts st) v) m) h) (equal_terms_is (term_at (table_of ts st) v) m (and_right (vertex ts ls st v) (equal_terms (term_at (table_of ts st) v) m) h))
-    go none q = g
+    go None q = g
 
 -- the middle term is in its place, and each end may be tied to it
 pub record Ready (ts : List Term) (ls : List Literal) (s t : ℕ) (p : Placed) : Type 0 where

@@ -1,8 +1,9 @@
 -- The library's own run is a run; it never stops at a middle term that cannot be made, and at its end no step is left.
+use Rattle.std.proofs.Common.{Option, Some, None}
+use Rattle.std.proofs.lemmas.Option.{none-some}
 use mathlib.Core.Bool.{not, ◌&&◌}
 use mathlib.Core.List.{List, Memᴰ}
 use mathlib.Core.Logic.{◌⊎◌, inl, inr, ⊎_elim}
-use mathlib.Core.Option.{Option, some, none, none-ne-some}
 use mathlib.Core.Path.{◌≡◌, refl, sym, ap, subst, subst₂, ◌∙◌}
 use Prim.Native.Nat.{ℕ, zero, suc, ◌+◌, ◌≤◌, ◌<◌}
 use native.Mathlib.Omega.{arith}
@@ -11,7 +12,8 @@ use lib.ListN.{length}
 use Rattle.tables.specs.Words.{Pair, pair, pairs_below}
 use Rattle.tables.specs.Terms.{Term}
 use Rattle.tables.specs.Parts.{LowerArguments}
-use Rattle.tables.specs.LiteralTable.{equal, Literal}
+use Rattle.tables.specs.declared.Literal.{Literal}
+use Rattle.tables.specs.declared.Kind.TheVariants.{Equal}
 use Rattle.tables.specs.Colours.{is_in_use}
 use Rattle.tables.proofs.Words.{by_test, passes, fails, and_left, and_right, and_both, first_of_some, first_of_none, below_or_is, pairs_below_mem, mem_pairs_below}
 use Rattle.tables.proofs.Colours.{SidesWithin, in_use_within}
@@ -28,30 +30,30 @@ use Rattle.closure.proofs.Running.OwnSteps.{must_pass, basic_steps_run, basic_st
 -- ---- the turns
 
 -- nothing is done where no pair is found
-pub turns_none : (find : State → Option Pair) (step : State → Pair → Option State) (k : ℕ) (st : State) → find st ≡ none → turns_at find step (suc k) st ≡ some st
+pub turns_none : (find : State → Option Pair) (step : State → Pair → Option State) (k : ℕ) (st : State) → find st ≡ None → turns_at find step (suc k) st ≡ Some st
 unfolding turns_at
 turns_none find step k st q = rw (q, turns_at)
 
 -- nothing is left where the step cannot be taken
-pub turns_stuck : (find : State → Option Pair) (step : State → Pair → Option State) (k : ℕ) (st : State) (p : Pair) → find st ≡ some p → step st p ≡ none → turns_at find step (suc k) st ≡ none
+pub turns_stuck : (find : State → Option Pair) (step : State → Pair → Option State) (k : ℕ) (st : State) (p : Pair) → find st ≡ Some p → step st p ≡ None → turns_at find step (suc k) st ≡ None
 unfolding turns_at
 turns_stuck find step k st p q r =
-    let first : turns_at find step (suc k) st ≡ elim (step st p) [ none ↦ none | some z ↦ turns_at find step k z ] = rw (q, turns_at) in
-    first ∙ ap {B = Option State} (λ (o : Option State). elim o [ none ↦ none | some z ↦ turns_at find step k z ]) r
+    let first : turns_at find step (suc k) st ≡ elim (step st p) [ None ↦ None | Some z ↦ turns_at find step k z ] = rw (q, turns_at) in
+    first ∙ ap {B = Option State} (λ (o : Option State). elim o [ None ↦ None | Some z ↦ turns_at find step k z ]) r
 
 -- a turn is one step
-pub turns_some : (find : State → Option Pair) (step : State → Pair → Option State) (k : ℕ) (st after : State) (p : Pair) → find st ≡ some p → step st p ≡ some after → turns_at find step (suc k) st ≡ turns_at find step k after
+pub turns_some : (find : State → Option Pair) (step : State → Pair → Option State) (k : ℕ) (st after : State) (p : Pair) → find st ≡ Some p → step st p ≡ Some after → turns_at find step (suc k) st ≡ turns_at find step k after
 unfolding turns_at
 turns_some find step k st after p q r =
-    let first : turns_at find step (suc k) st ≡ elim (step st p) [ none ↦ none | some z ↦ turns_at find step k z ] = rw (q, turns_at) in
-    first ∙ ap {B = Option State} (λ (o : Option State). elim o [ none ↦ none | some z ↦ turns_at find step k z ]) r
+    let first : turns_at find step (suc k) st ≡ elim (step st p) [ None ↦ None | Some z ↦ turns_at find step k z ] = rw (q, turns_at) in
+    first ∙ ap {B = Option State} (λ (o : Option State). elim o [ None ↦ None | Some z ↦ turns_at find step k z ]) r
 
 -- what the turns come to, from a state after j steps with k turns left
 pub record Turned (ts : List Term) (ls : List Literal) (j k : ℕ) (st after : State) : Type 0 where
-  pub found : turns_at (first_pair ts ls) (derived_on ts ls) k st ≡ some after
+  pub found : turns_at (first_pair ts ls) (derived_on ts ls) k st ≡ Some after
   pub steps : ℕ
   pub run : Run ts ls steps after
-  pub ended : (first_pair ts ls after ≡ none) ⊎ (steps ≡ j + k)
+  pub ended : (first_pair ts ls after ≡ None) ⊎ (steps ≡ j + k)
   pub stays : (u v : ℕ) → T (joined st.graph u v) → T (joined after.graph u v)
 
 module _ (ts : List Term) (ls : List Literal) (low : LowerArguments ts) (within : SidesWithin ts ls) where
@@ -68,7 +70,7 @@ module _ (ts : List Term) (ls : List Literal) (low : LowerArguments ts) (within 
       (in_use_vertex ts ls low within st s (and_left (is_in_use ts ls s) (is_in_use ts ls t) used), in_use_vertex ts ls low within st t (and_right (is_in_use ts ls s) (is_in_use ts ls t) used), and_right (c && u) (not (joined st.graph s t)) h, and_left c u cu)
 
   -- the derived step on the first pair is a step
-  pub first_pair_step : (st : State) → SoundState ts ls st → (p : Pair) → first_pair ts ls st ≡ some p → (after : State) × (derived_on ts ls st p ≡ some after) × Step ts ls st after
+  pub first_pair_step : (st : State) → SoundState ts ls st → (p : Pair) → first_pair ts ls st ≡ Some p → (after : State) × (derived_on ts ls st p ≡ Some after) × Step ts ls st after
   unfolding first_pair
   first_pair_step st r p q =
       let w = derivable_parts st p (first_of_some (derivable ts ls st) (pairs_below (length ts)) p q).1 in
@@ -81,8 +83,8 @@ module _ (ts : List Term) (ls : List Literal) (low : LowerArguments ts) (within 
   turns (suc k) j st run = go (first_pair ts ls st) refl (λ i z w. turns k i z w)
     where
       go : (o : Option Pair) → first_pair ts ls st ≡ o → ((i : ℕ) (z : State) → Run ts ls i z → (after : State) × Turned ts ls i k z after) → (after : State) × Turned ts ls j (suc k) st after
-      go none q f = (st, record { found = turns_none (first_pair ts ls) (derived_on ts ls) k st q; steps = j; run = run; ended = inl q; stays = λ u v h. h })
-      go (some p) q f =
+      go None q f = (st, record { found = turns_none (first_pair ts ls) (derived_on ts ls) k st q; steps = j; run = run; ended = inl q; stays = λ u v h. h })
+      go (Some p) q f =
           let w = first_pair_step st (run_sound ts ls low within run) p q in
           let z = f (suc j) w.0 (next run w.2) in
           let x = z.1 in
@@ -90,7 +92,7 @@ module _ (ts : List Term) (ls : List Literal) (low : LowerArguments ts) (within 
 
 -- ---- no step is left
 
-module _ (ts : List Term) (ls : List Literal) (low : LowerArguments ts) (within : SidesWithin ts ls) (st : State) (no_pair : first_pair ts ls st ≡ none) where
+module _ (ts : List Term) (ls : List Literal) (low : LowerArguments ts) (within : SidesWithin ts ls) (st : State) (no_pair : first_pair ts ls st ≡ None) where
   -- where no pair is found, congruent given terms in use are joined: the lower one left
   ordered_joined : (s t : ℕ) → s < t → T (is_in_use ts ls s) → T (is_in_use ts ls t) → T (congruent (table_of ts st) st.graph s t) → T (joined st.graph s t)
   unfolding first_pair derivable
@@ -120,7 +122,7 @@ module _ (ts : List Term) (ls : List Literal) (low : LowerArguments ts) (within 
       joined_trans G s a.0 t (joined_sym G a.0 s a.2) (joined_trans G a.0 b.0 t j b.2)
 
   -- and no step is left, where the sides of every equality are joined
-  pub no_step_left : ((v : ℕ) → T (vertex ts ls st v) → Known ts ls st v) → ((l : Literal) → Memᴰ l ls → l.kind ≡ equal → T (joined st.graph l.left l.right)) → NoStepLeft ts ls st
+  pub no_step_left : ((v : ℕ) → T (vertex ts ls st v) → Known ts ls st v) → ((l : Literal) → Memᴰ l ls → l.kind ≡ Equal → T (joined st.graph l.left l.right)) → NoStepLeft ts ls st
   no_step_left known equalities after (basic_step l s t m k h n) = T_not (joined st.graph s t) n (⊎_elim (λ q. sides q.0 q.1) (λ q. joined_sym st.graph t s (sides q.0 q.1)) h)
     where
       sides : {x y : ℕ} → l.left ≡ x → l.right ≡ y → T (joined st.graph x y)
@@ -132,11 +134,11 @@ module _ (ts : List Term) (ls : List Literal) (low : LowerArguments ts) (within 
 
 -- what the library's own run comes to
 pub record OwnEnd (ts : List Term) (ls : List Literal) (st : State) : Type 0 where
-  pub found : own_run ts ls ≡ some st
+  pub found : own_run ts ls ≡ Some st
   pub steps : ℕ
   pub run : Run ts ls steps st
-  pub ended : (first_pair ts ls st ≡ none) ⊎ (length ts ≤ steps)
-  pub equalities : (l : Literal) → Memᴰ l ls → l.kind ≡ equal → T (joined st.graph l.left l.right)
+  pub ended : (first_pair ts ls st ≡ None) ⊎ (length ts ≤ steps)
+  pub equalities : (l : Literal) → Memᴰ l ls → l.kind ≡ Equal → T (joined st.graph l.left l.right)
 
 -- a run that has a step has fewer steps than there are terms
 abbrev pub FewSteps : List Term → List Literal → Type 0
@@ -153,37 +155,37 @@ module _ (ts : List Term) (ls : List Literal) (low : LowerArguments ts) (within 
       (t.0, record { found = x.found; steps = x.steps; run = x.run; ended = ⊎_elim (λ e. inl e) (λ e. inr (omega (arith, e))) x.ended; equalities = λ l m k. x.stays l.left l.right (basic_steps_join ls begin l m k) })
 
   -- every state that it comes to is that one
-  pub own_end : (st : State) → own_run ts ls ≡ some st → OwnEnd ts ls st
+  pub own_end : (st : State) → own_run ts ls ≡ Some st → OwnEnd ts ls st
   own_end st q =
       let w = own_run_there in
       let e : w.0 ≡ st = some_same w.0 (sym w.1.found ∙ q) in
       subst (OwnEnd ts ls) e w.1
     where
-      some_same : (z : State) → some z ≡ some st → z ≡ st
+      some_same : (z : State) → Some z ≡ Some st → z ≡ st
       some_same z h = cc
 
   -- the library's own run is a run
-  pub own_run_is : (st : State) → own_run ts ls ≡ some st → (k : ℕ) × Run ts ls k st
+  pub own_run_is : (st : State) → own_run ts ls ≡ Some st → (k : ℕ) × Run ts ls k st
   own_run_is st q = let w = own_end st q in (w.steps, w.run)
 
   -- "a middle term is needed and a parent path has no shared term" never happens
-  pub own_run_never_stuck : own_run ts ls ≡ none → ⊥
-  own_run_never_stuck q = let w = own_run_there in none-ne-some w.0 (sym q ∙ w.1.found)
+  pub own_run_never_stuck : own_run ts ls ≡ None → ⊥
+  own_run_never_stuck q = let w = own_run_there in none-some w.0 (sym q ∙ w.1.found)
 
   -- the turns are enough: at the end no pair is found, and the sides of every equality are joined
-  pub own_run_ends : FewSteps ts ls → (st : State) → own_run ts ls ≡ some st → (first_pair ts ls st ≡ none) × ((l : Literal) → Memᴰ l ls → l.kind ≡ equal → T (joined st.graph l.left l.right))
+  pub own_run_ends : FewSteps ts ls → (st : State) → own_run ts ls ≡ Some st → (first_pair ts ls st ≡ None) × ((l : Literal) → Memᴰ l ls → l.kind ≡ Equal → T (joined st.graph l.left l.right))
   unfolding first_pair
   own_run_ends few st q = let w = own_end st q in (⊎_elim (λ e. e) (λ h. none_found w h (first_pair ts ls st) refl) w.ended, w.equalities)
     where
-      none_found : (w : OwnEnd ts ls st) → length ts ≤ w.steps → (o : Option Pair) → first_pair ts ls st ≡ o → first_pair ts ls st ≡ none
-      none_found w h none e = e
-      none_found w h (some p) e =
+      none_found : (w : OwnEnd ts ls st) → length ts ≤ w.steps → (o : Option Pair) → first_pair ts ls st ≡ o → first_pair ts ls st ≡ None
+      none_found w h None e = e
+      none_found w h (Some p) e =
           let m = pairs_below_mem (length ts) p (first_of_some (derivable ts ls st) (pairs_below (length ts)) p e).0 in
           let z : ⊥ = omega (arith, m.1, h, few w.steps st w.run (omega (arith, m.1, h))) in
           absurd z
 
   -- at its end no step is left, between any vertices
-  pub own_run_no_step_left : FewSteps ts ls → (st : State) → own_run ts ls ≡ some st → NoStepLeft ts ls st
+  pub own_run_no_step_left : FewSteps ts ls → (st : State) → own_run ts ls ≡ Some st → NoStepLeft ts ls st
   own_run_no_step_left few st q =
       let e = own_run_ends few st q in
       no_step_left ts ls low within st e.0 (λ v h. run_known ts ls low within (own_run_is st q).1 v h) e.1

@@ -1,14 +1,17 @@
 -- The steps that the library's own run takes are steps, and a derived step is always there between unjoined congruent vertices.
+use Rattle.std.proofs.Common.{Option, Some, option_map}
 use mathlib.Core.Bool.{Bool, true, false, cond, not, ◌&&◌}
 use mathlib.Core.List.{List, [], ◌∷◌, Memᴰ}
 use mathlib.Core.Logic.{◌⊎◌, inl, inr}
-use mathlib.Core.Option.{Option, some, map}
 use mathlib.Core.Path.{◌≡◌, refl, sym, ap, subst, ◌∙◌}
 use Prim.Native.Nat.{ℕ, suc}
 use lib.Dec.{T, T_not, not_T}
 use Rattle.tables.specs.Words.{pair}
 use Rattle.tables.specs.Terms.{Term}
-use Rattle.tables.specs.LiteralTable.{Kind, equal, different, is_equal, Literal}
+use Rattle.tables.specs.LiteralTable.{is_equal}
+use Rattle.tables.specs.declared.Literal.{Literal}
+use Rattle.tables.specs.declared.Kind.{Kind}
+use Rattle.tables.specs.declared.Kind.TheVariants.{Equal, Different}
 use Rattle.tables.specs.declared.Side.{Side}
 use Rattle.tables.specs.declared.Side.TheVariants.{A, B}
 use Rattle.tables.specs.Colours.{colourable, edge_colourable}
@@ -46,16 +49,16 @@ unjoined_sym G u v n = not_T (joined G v u) (λ k. T_not (joined G u v) n (joine
 -- ---- basic steps
 
 -- the test of a literal's kind
-pub is_equal_equal : (k : Kind) → T (is_equal k) → k ≡ equal
-is_equal_equal equal h = refl
-is_equal_equal different h = absurd h
+pub is_equal_equal : (k : Kind) → T (is_equal k) → k ≡ Equal
+is_equal_equal Equal h = refl
+is_equal_equal Different h = absurd h
 
 -- what the run does for one literal: a basic step where it is an equality with unjoined sides
 abbrev after_literal : Literal → State → State
 after_literal l st = cond (is_equal l.kind && not (joined st.graph l.left l.right)) (with_edge st l.left l.right l.side basic) st
 
 -- by whether it takes the step
-literal_either : (P : State → Type 0) (l : Literal) (st : State) → (l.kind ≡ equal → T (not (joined st.graph l.left l.right)) → P (with_edge st l.left l.right l.side basic)) → (T (not (is_equal l.kind && not (joined st.graph l.left l.right))) → P st) → P (after_literal l st)
+literal_either : (P : State → Type 0) (l : Literal) (st : State) → (l.kind ≡ Equal → T (not (joined st.graph l.left l.right)) → P (with_edge st l.left l.right l.side basic)) → (T (not (is_equal l.kind && not (joined st.graph l.left l.right))) → P st) → P (after_literal l st)
 literal_either P l st f g = go (is_equal l.kind && unjoined) refl
   where
     unjoined : Bool
@@ -80,14 +83,14 @@ basic_steps_stay [] st u v j = j
 basic_steps_stay (l ∷ more) st u v j = basic_steps_stay more (after_literal l st) u v (literal_either (λ z. T (joined z.graph u v)) l st (λ e n. joined_more (record { left = l.left; right = l.right; colour = l.side; kind = basic }) st.graph u v j) (λ n. j))
 
 -- after one literal the sides of that literal are joined, if it is an equality
-literal_joined : (l : Literal) (st : State) → l.kind ≡ equal → T (joined (after_literal l st).graph l.left l.right)
+literal_joined : (l : Literal) (st : State) → l.kind ≡ Equal → T (joined (after_literal l st).graph l.left l.right)
 literal_joined l st k =
     literal_either (λ z. T (joined z.graph l.left l.right)) l st
     (λ e n. joined_ends (record { left = l.left; right = l.right; colour = l.side; kind = basic }) st.graph)
     (λ n. must_pass (joined st.graph l.left l.right) (T_not (not (joined st.graph l.left l.right)) (not_and_right (is_equal l.kind) (not (joined st.graph l.left l.right)) n (subst (λ (c : Kind). T (is_equal c)) (sym k) tt))))
 
 -- after all of them the sides of every equality are joined
-pub basic_steps_join : (more : List Literal) (st : State) (l : Literal) → Memᴰ l more → l.kind ≡ equal → T (joined (basic_steps more st).graph l.left l.right)
+pub basic_steps_join : (more : List Literal) (st : State) (l : Literal) → Memᴰ l more → l.kind ≡ Equal → T (joined (basic_steps more st).graph l.left l.right)
 unfolding basic_steps
 basic_steps_join [] st x absent k = elim absent [ ]
 basic_steps_join (l ∷ more) st x (Memᴰ.head e) k =
@@ -140,14 +143,14 @@ module _ (ts : List Term) (ls : List Literal) (st : State) (r : SoundState ts ls
       (other_left (colourable ts ls A (table_of ts st) t) (colourable ts ls B (table_of ts st) t) (r.coloured t vt) tb, tb, sb)
 
   -- the middle step that the library takes between an A-colourable and a B-colourable end is there, and is one
-  own_middle : (s t : ℕ) → T (vertex ts ls st s) → T (vertex ts ls st t) → T (not (joined st.graph s t)) → T (congruent (table_of ts st) st.graph s t) → T (colourable ts ls A (table_of ts st) s) → T (not (colourable ts ls B (table_of ts st) s)) → T (colourable ts ls B (table_of ts st) t) → T (not (colourable ts ls A (table_of ts st) t)) → (after : State) × (middle_from ts ls st s t ≡ some after) × Step ts ls st after
+  own_middle : (s t : ℕ) → T (vertex ts ls st s) → T (vertex ts ls st t) → T (not (joined st.graph s t)) → T (congruent (table_of ts st) st.graph s t) → T (colourable ts ls A (table_of ts st) s) → T (not (colourable ts ls B (table_of ts st) s)) → T (colourable ts ls B (table_of ts st) t) → T (not (colourable ts ls A (table_of ts st) t)) → (after : State) × (middle_from ts ls st s t ≡ Some after) × Step ts ls st after
   unfolding middle_from
   own_middle s t vs vt n c sa sb tb ta =
       let m = middle_found ts ls (table_of ts st) r.lower st.graph r.edges s t (vertex_within ts ls st s vs) (vertex_within ts ls st t vt) c sa tb in
-      (with_middle ts ls st s t m.0, ap (map (with_middle ts ls st s t)) m.1, middle_step s t m.0 vs vt n c (only_made ts ls A B (table_of ts st) s sa sb) (only_made ts ls B A (table_of ts st) t tb ta) m.2)
+      (with_middle ts ls st s t m.0, ap (option_map (with_middle ts ls st s t)) m.1, middle_step s t m.0 vs vt n c (only_made ts ls A B (table_of ts st) s sa sb) (only_made ts ls B A (table_of ts st) t tb ta) m.2)
 
   -- the derived step that the library takes between unjoined congruent vertices is there, and is a step
-  pub own_step : (s t : ℕ) → T (vertex ts ls st s) → T (vertex ts ls st t) → T (not (joined st.graph s t)) → T (congruent (table_of ts st) st.graph s t) → (after : State) × (derived_on ts ls st (pair s t) ≡ some after) × Step ts ls st after
+  pub own_step : (s t : ℕ) → T (vertex ts ls st s) → T (vertex ts ls st t) → T (not (joined st.graph s t)) → T (congruent (table_of ts st) st.graph s t) → (after : State) × (derived_on ts ls st (pair s t) ≡ Some after) × Step ts ls st after
   unfolding derived_on
   own_step s t vs vt n c = as_b (edge_colourable ts ls B table s t) refl
     where
@@ -156,7 +159,7 @@ module _ (ts : List Term) (ls : List Literal) (st : State) (r : SoundState ts ls
 
       -- a derived edge of a colour
       edge : Side → Option State
-      edge X = some (with_edge st s t X derived)
+      edge X = Some (with_edge st s t X derived)
 
       -- the middle step from the end that is A-colourable
       from : Bool → Option State
@@ -167,7 +170,7 @@ module _ (ts : List Term) (ls : List Literal) (st : State) (r : SoundState ts ls
       or_a b = cond b (edge A) (from (colourable ts ls A table s))
 
       Taken : Option State → Type 0
-      Taken o = (after : State) × (o ≡ some after) × Step ts ls st after
+      Taken o = (after : State) × (o ≡ Some after) × Step ts ls st after
 
       middle : (b : Bool) → colourable ts ls A table s ≡ b → T (not (edge_colourable ts ls B table s t)) → T (not (edge_colourable ts ls A table s t)) → Taken (from b)
       middle true q nb na =
@@ -192,5 +195,5 @@ module _ (ts : List Term) (ls : List Literal) (st : State) (r : SoundState ts ls
   no_step_congruent none_left s t vs vt c = must_pass (joined st.graph s t) (λ n. let w = own_step s t vs vt n c in none_left w.0 w.2)
 
 -- and the sides of every equality are
-pub no_step_equality : (ts : List Term) (ls : List Literal) (st : State) → NoStepLeft ts ls st → (l : Literal) → Memᴰ l ls → l.kind ≡ equal → T (joined st.graph l.left l.right)
+pub no_step_equality : (ts : List Term) (ls : List Literal) (st : State) → NoStepLeft ts ls st → (l : Literal) → Memᴰ l ls → l.kind ≡ Equal → T (joined st.graph l.left l.right)
 no_step_equality ts ls st none_left l m k = must_pass (joined st.graph l.left l.right) (λ n. none_left (with_edge st l.left l.right l.side basic) (basic_step l l.left l.right m k (inl (refl, refl)) n))

@@ -1,8 +1,9 @@
 -- A shared term stands on each parent path between an A-colourable and a B-colourable end, so a middle term can always be made.
+use Rattle.std.proofs.Common.{Option, Some, None}
+use Rattle.std.proofs.lemmas.Option.{none-some}
 use mathlib.Core.Bool.{not}
 use mathlib.Core.List.{List, [], ◌∷◌, Memᴰ}
 use mathlib.Core.Logic.{⊎_elim}
-use mathlib.Core.Option.{Option, some, none, none-ne-some}
 use mathlib.Core.Path.{◌≡◌, refl, sym, subst}
 use Prim.Native.Nat.{ℕ, ◌<◌}
 use lib.Dec.{T, T_not}
@@ -10,7 +11,7 @@ use lib.ListN.{length}
 use Rattle.tables.specs.Words.{first_of}
 use Rattle.tables.specs.Terms.{Term, term_at}
 use Rattle.tables.specs.Parts.{LowerArguments}
-use Rattle.tables.specs.LiteralTable.{Literal}
+use Rattle.tables.specs.declared.Literal.{Literal}
 use Rattle.tables.specs.declared.Side.{Side}
 use Rattle.tables.specs.declared.Side.TheVariants.{A, B}
 use Rattle.tables.specs.Colours.{colourable, shared}
@@ -60,38 +61,38 @@ module _ (ts : List Term) (ls : List Literal) (table : List Term) where
   shared_on_path G each a b j ka kb = shared_on_walk each (path_walk G a b j) ka kb
 
   -- the first shared terms of the parent paths are chosen terms
-  pub first_chosen : (G : Graph) (xs ys : List ℕ) → T (joined_pairwise G xs ys) → (ms : List ℕ) → first_shared ts ls table G xs ys ≡ some ms → Chosen ts ls table G xs ys ms
+  pub first_chosen : (G : Graph) (xs ys : List ℕ) → T (joined_pairwise G xs ys) → (ms : List ℕ) → first_shared ts ls table G xs ys ≡ Some ms → Chosen ts ls table G xs ys ms
   unfolding first_shared joined_pairwise and_then
   first_chosen G [] [] j ms e = subst (Chosen ts ls table G [] []) (cc) chosen_none
   first_chosen G [] (y ∷ ys) j ms e = absurd j
   first_chosen G (x ∷ xs) [] j ms e = absurd j
   first_chosen G (x ∷ xs) (y ∷ ys) j ms e = go (first_of (shared ts ls table) (vertices x (path G x y))) refl (first_shared ts ls table G xs ys) refl e (λ ns q. first_chosen G xs ys (pairwise_tail G x y xs ys j) ns q)
     where
-      go : (o : Option ℕ) → first_of (shared ts ls table) (vertices x (path G x y)) ≡ o → (p : Option (List ℕ)) → first_shared ts ls table G xs ys ≡ p → and_then o p ≡ some ms → ((ns : List ℕ) → first_shared ts ls table G xs ys ≡ some ns → Chosen ts ls table G xs ys ns) → Chosen ts ls table G (x ∷ xs) (y ∷ ys) ms
-      go none q p r w f = absurd (none-ne-some ms w)
-      go (some m) q none r w f = absurd (none-ne-some ms w)
-      go (some m) q (some ns) r w f =
+      go : (o : Option ℕ) → first_of (shared ts ls table) (vertices x (path G x y)) ≡ o → (p : Option (List ℕ)) → first_shared ts ls table G xs ys ≡ p → and_then o p ≡ Some ms → ((ns : List ℕ) → first_shared ts ls table G xs ys ≡ Some ns → Chosen ts ls table G xs ys ns) → Chosen ts ls table G (x ∷ xs) (y ∷ ys) ms
+      go None q p r w f = absurd (none-some ms w)
+      go (Some m) q None r w f = absurd (none-some ms w)
+      go (Some m) q (Some ns) r w f =
           let c = first_of_some (shared ts ls table) (vertices x (path G x y)) m q in
           let z : m ∷ ns ≡ ms = cc in
           subst (Chosen ts ls table G (x ∷ xs) (y ∷ ys)) z (chosen_next c.1 c.0 (f ns r))
 
   -- each parent path has one, where the arguments have these colours
-  pub first_shared_found : (G : Graph) → SoundGraph ts ls table G → (xs ys : List ℕ) → T (joined_pairwise G xs ys) → ((a : ℕ) → Memᴰ a xs → T (colourable ts ls A table a)) → ((b : ℕ) → Memᴰ b ys → T (colourable ts ls B table b)) → first_shared ts ls table G xs ys ≡ none → ⊥
+  pub first_shared_found : (G : Graph) → SoundGraph ts ls table G → (xs ys : List ℕ) → T (joined_pairwise G xs ys) → ((a : ℕ) → Memᴰ a xs → T (colourable ts ls A table a)) → ((b : ℕ) → Memᴰ b ys → T (colourable ts ls B table b)) → first_shared ts ls table G xs ys ≡ None → ⊥
   unfolding first_shared joined_pairwise and_then
-  first_shared_found G each [] [] j ka kb e = none-ne-some [] (sym e)
+  first_shared_found G each [] [] j ka kb e = none-some [] (sym e)
   first_shared_found G each [] (y ∷ ys) j ka kb e = j
   first_shared_found G each (x ∷ xs) [] j ka kb e = j
   first_shared_found G each (x ∷ xs) (y ∷ ys) j ka kb e = go (first_of (shared ts ls table) (vertices x (path G x y))) refl (first_shared ts ls table G xs ys) refl e (λ q. first_shared_found G each xs ys (pairwise_tail G x y xs ys j) (λ a m. ka a (Memᴰ.tail m)) (λ b m. kb b (Memᴰ.tail m)) q)
     where
-      go : (o : Option ℕ) → first_of (shared ts ls table) (vertices x (path G x y)) ≡ o → (p : Option (List ℕ)) → first_shared ts ls table G xs ys ≡ p → and_then o p ≡ none → (first_shared ts ls table G xs ys ≡ none → ⊥) → ⊥
-      go none q p r w f = let m = shared_on_path G each x y (pairwise_head G x y xs ys j) (ka x (Memᴰ.head refl)) (kb y (Memᴰ.head refl)) in first_of_none (shared ts ls table) q m.1 m.2
-      go (some m) q none r w f = f r
-      go (some m) q (some ns) r w f = none-ne-some (m ∷ ns) (sym w)
+      go : (o : Option ℕ) → first_of (shared ts ls table) (vertices x (path G x y)) ≡ o → (p : Option (List ℕ)) → first_shared ts ls table G xs ys ≡ p → and_then o p ≡ None → (first_shared ts ls table G xs ys ≡ None → ⊥) → ⊥
+      go None q p r w f = let m = shared_on_path G each x y (pairwise_head G x y xs ys j) (ka x (Memᴰ.head refl)) (kb y (Memᴰ.head refl)) in first_of_none (shared ts ls table) q m.1 m.2
+      go (Some m) q None r w f = f r
+      go (Some m) q (Some ns) r w f = none-some (m ∷ ns) (sym w)
 
   -- so between congruent ends of these colours a middle step can be chosen, and the library's own choice is one
-  pub middle_found : LowerArguments table → (G : Graph) → SoundGraph ts ls table G → (s t : ℕ) → s < length table → t < length table → T (congruent table G s t) → T (colourable ts ls A table s) → T (colourable ts ls B table t) → (chosen : List ℕ) × (first_shared ts ls table G (term_at table s).arguments (term_at table t).arguments ≡ some chosen) × Chosen ts ls table G (term_at table s).arguments (term_at table t).arguments chosen
+  pub middle_found : LowerArguments table → (G : Graph) → SoundGraph ts ls table G → (s t : ℕ) → s < length table → t < length table → T (congruent table G s t) → T (colourable ts ls A table s) → T (colourable ts ls B table t) → (chosen : List ℕ) × (first_shared ts ls table G (term_at table s).arguments (term_at table t).arguments ≡ Some chosen) × Chosen ts ls table G (term_at table s).arguments (term_at table t).arguments chosen
   middle_found low G each s t hs ht c ka kb = go (first_shared ts ls table G (term_at table s).arguments (term_at table t).arguments) refl
     where
-      go : (o : Option (List ℕ)) → first_shared ts ls table G (term_at table s).arguments (term_at table t).arguments ≡ o → (chosen : List ℕ) × (first_shared ts ls table G (term_at table s).arguments (term_at table t).arguments ≡ some chosen) × Chosen ts ls table G (term_at table s).arguments (term_at table t).arguments chosen
-      go (some ms) q = (ms, q, first_chosen G (term_at table s).arguments (term_at table t).arguments (congruent_arguments table G s t c) ms q)
-      go none q = absurd (first_shared_found G each (term_at table s).arguments (term_at table t).arguments (congruent_arguments table G s t c) (λ a m. colourable_argument ts ls A table low s a hs ka m) (λ b m. colourable_argument ts ls B table low t b ht kb m) q)
+      go : (o : Option (List ℕ)) → first_shared ts ls table G (term_at table s).arguments (term_at table t).arguments ≡ o → (chosen : List ℕ) × (first_shared ts ls table G (term_at table s).arguments (term_at table t).arguments ≡ Some chosen) × Chosen ts ls table G (term_at table s).arguments (term_at table t).arguments chosen
+      go (Some ms) q = (ms, q, first_chosen G (term_at table s).arguments (term_at table t).arguments (congruent_arguments table G s t c) ms q)
+      go None q = absurd (first_shared_found G each (term_at table s).arguments (term_at table t).arguments (congruent_arguments table G s t c) (λ a m. colourable_argument ts ls A table low s a hs ka m) (λ b m. colourable_argument ts ls B table low t b ht kb m) q)

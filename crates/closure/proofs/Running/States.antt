@@ -9,7 +9,8 @@ use lib.Dec.{T}
 use lib.ListN.{length, length-append}
 use Rattle.tables.specs.Terms.{Term, term_at}
 use Rattle.tables.specs.Parts.{itself, LowerArguments}
-use Rattle.tables.specs.LiteralTable.{Literal, equal}
+use Rattle.tables.specs.declared.Literal.{Literal}
+use Rattle.tables.specs.declared.Kind.TheVariants.{Equal}
 use Rattle.tables.specs.declared.Side.{Side}
 use Rattle.tables.specs.declared.Side.TheVariants.{A, B}
 use Rattle.tables.specs.Colours.{is_in_use, colourable, shared, edge_colourable}
@@ -156,7 +157,7 @@ module _ (ts : List Term) (ls : List Literal) (low : LowerArguments ts) (within 
   side_colourable st l m u h = extends_colourable ts (table_of ts st) (given_first ts st) ts ls l.side low u (in_use_within ts ls low within u (side_in_use l m u h)) (⊎_elim (λ q. subst (λ (x : ℕ). T (colourable ts ls l.side ts x)) q (part_colourable ts ls low within l.side l m refl l.left (inl itself))) (λ q. subst (λ (x : ℕ). T (colourable ts ls l.side ts x)) q (part_colourable ts ls low within l.side l m refl l.right (inr itself))) h)
 
   -- a state stays sound under a basic step
-  pub basic_sound : (st : State) → SoundState ts ls st → (l : Literal) (s t : ℕ) → Memᴰ l ls → l.kind ≡ equal → HasSides l s t → T (not (joined st.graph s t)) → SoundState ts ls (with_edge st s t l.side basic)
+  pub basic_sound : (st : State) → SoundState ts ls st → (l : Literal) (s t : ℕ) → Memᴰ l ls → l.kind ≡ Equal → HasSides l s t → T (not (joined st.graph s t)) → SoundState ts ls (with_edge st s t l.side basic)
   basic_sound st r l s t m k h n =
       let left : (l.left ≡ s) ⊎ (l.right ≡ s) = ⊎_elim (λ q. inl q.0) (λ q. inr q.1) h in
       let right : (l.left ≡ t) ⊎ (l.right ≡ t) = ⊎_elim (λ q. inr q.1) (λ q. inl q.0) h in

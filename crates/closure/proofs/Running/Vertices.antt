@@ -9,7 +9,7 @@ use native.Mathlib.Omega.{arith}
 use lib.Dec.{T, ltb, ltb→lt, lt→ltb, nltb→le}
 use lib.ListN.{length, length-append}
 use Rattle.tables.specs.Terms.{Term}
-use Rattle.tables.specs.LiteralTable.{Literal}
+use Rattle.tables.specs.declared.Literal.{Literal}
 use Rattle.tables.specs.Colours.{is_in_use, shared}
 use Rattle.tables.proofs.Words.{by_test, passes, fails, passed}
 use Rattle.closure.specs.Graph.{Edge, Graph, Hop, Path, joined, path, vertices, joined_pairwise}

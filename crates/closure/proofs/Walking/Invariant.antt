@@ -5,7 +5,8 @@ use Prim.Native.Nat.{◌<◌}
 use lib.Dec.{T}
 use lib.ListN.{length}
 use Rattle.tables.specs.Terms.{Term}
-use Rattle.tables.specs.LiteralTable.{Literal, equal}
+use Rattle.tables.specs.declared.Literal.{Literal}
+use Rattle.tables.specs.declared.Kind.TheVariants.{Equal}
 use Rattle.tables.specs.Colours.{edge_colourable}
 use Rattle.closure.specs.Graph.{Edge, EdgeKind, basic, derived, Graph}
 use Rattle.closure.specs.Steps.{congruent, HasSides}
@@ -13,7 +14,7 @@ pub use Rattle.closure.specs.Forests.{Each, Unjoined, Forest}
 
 -- what stands behind an edge: an equality record of its colour with its sides, or the same symbol over joined arguments
 abbrev pub Behind : List Literal → List Term → Graph → Edge → EdgeKind → Type 0
-Behind ls table G e basic = (l : Literal) × Memᴰ l ls × (l.kind ≡ equal) × (l.side ≡ e.colour) × HasSides l e.left e.right
+Behind ls table G e basic = (l : Literal) × Memᴰ l ls × (l.kind ≡ Equal) × (l.side ≡ e.colour) × HasSides l e.left e.right
 Behind ls table G e derived = T (congruent table G e.left e.right)
 
 -- an edge as the steps make it

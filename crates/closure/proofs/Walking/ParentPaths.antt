@@ -6,7 +6,7 @@ use mathlib.Core.Path.{◌≡◌, sym, ap, subst, ◌∙◌}
 use Prim.Native.Nat.{ℕ}
 use lib.Dec.{T}
 use Rattle.tables.specs.Terms.{Term, term_at}
-use Rattle.tables.specs.LiteralTable.{Literal}
+use Rattle.tables.specs.declared.Literal.{Literal}
 use Rattle.tables.proofs.Words.{and_left, and_right}
 use Rattle.closure.specs.Graph.{Edge, EdgeKind, Graph, Hop, Path, joined, path, joined_pairwise, paths_between, parents_of, parent_paths, vertices}
 use Rattle.closure.specs.Walks.{HopOf, Walk, hop, Once, new, IsPath}

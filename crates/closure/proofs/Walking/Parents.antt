@@ -8,7 +8,8 @@ use Prim.Native.Nat.{ℕ, ◌<◌}
 use lib.Dec.{T, eqb, eqb→eq}
 use lib.ListN.{length}
 use Rattle.tables.specs.Terms.{Term, term_at}
-use Rattle.tables.specs.LiteralTable.{Literal, equal}
+use Rattle.tables.specs.declared.Literal.{Literal}
+use Rattle.tables.specs.declared.Kind.TheVariants.{Equal}
 use Rattle.tables.specs.Colours.{colourable, edge_colourable}
 use Rattle.tables.proofs.Words.{and_left, and_right, and_both}
 use Rattle.closure.specs.Graph.{Edge, EdgeKind, basic, derived, Graph, Hop, Path, forth, back, joined, path, joined_pairwise, paths_between, parents_of, parent_paths}
@@ -122,7 +123,7 @@ module _ (ts : List Term) (ls : List Literal) (table : List Term) where
 
   -- A function of terms has one value at both ends of a hop when it has on both sides of each equality record of the hop's colour, follows symbol
   -- and arguments, and has one value at both ends of each parent path.
-  pub hop_agree {ℓ} : {C : Type ℓ} (f : ℕ → C) {h : Hop} → SoundHop ts ls table h → ((l : Literal) → Memᴰ l ls → l.kind ≡ equal → l.side ≡ h.colour → f l.left ≡ f l.right) → ((s t : ℕ) → s < length table → t < length table → (term_at table s).symbol ≡ (term_at table t).symbol → map f (term_at table s).arguments ≡ map f (term_at table t).arguments → f s ≡ f t) → ((π : Path) → Memᴰ π (parent_paths table h) → (a b : ℕ) → Walk h.older a b π → f a ≡ f b) → f h.from ≡ f h.to
+  pub hop_agree {ℓ} : {C : Type ℓ} (f : ℕ → C) {h : Hop} → SoundHop ts ls table h → ((l : Literal) → Memᴰ l ls → l.kind ≡ Equal → l.side ≡ h.colour → f l.left ≡ f l.right) → ((s t : ℕ) → s < length table → t < length table → (term_at table s).symbol ≡ (term_at table t).symbol → map f (term_at table s).arguments ≡ map f (term_at table t).arguments → f s ≡ f t) → ((π : Path) → Memᴰ π (parent_paths table h) → (a b : ℕ) → Walk h.older a b π → f a ≡ f b) → f h.from ≡ f h.to
   unfolding parent_paths parents_of congruent
   hop_agree f {h} s records follows parents = go h.kind s.behind parents
     where

@@ -9,7 +9,7 @@ use native.Mathlib.Omega.{arith}
 use lib.Dec.{T, eqb}
 use lib.ListN.{length, get_or}
 use Rattle.tables.specs.Terms.{Term, term_at}
-use Rattle.tables.specs.LiteralTable.{Literal}
+use Rattle.tables.specs.declared.Literal.{Literal}
 use Rattle.tables.proofs.Words.{and_left, and_right}
 use Rattle.closure.specs.Graph.{EdgeKind, basic, derived, Graph, Hop, Path, joined, path, joined_pairwise, paths_between, parents_of, parent_paths}
 use Rattle.closure.specs.Steps.{congruent}
