@@ -2,7 +2,7 @@
 use mathlib.Core.Bool.{Bool, false, cond, ◌||◌}
 use mathlib.Core.List.Memᴰ
 use mathlib.Core.List.{List, [], ◌∷◌, Memᴰ}
-use mathlib.Core.Logic.{◌⊎◌, inl, inr, ⊎_elim}
+use mathlib.Core.Logic.{⊎_elim}
 use mathlib.Core.Path.{◌≡◌, refl, sym, ap, ap₂, subst, ◌∙◌}
 use Prim.Native.Nat.{ℕ, ◌+◌, ◌≤◌, ◌<◌}
 use native.Mathlib.Omega.{arith}
@@ -10,13 +10,15 @@ use lib.Dec.{T, eqb, eqb→eq, eqb_refl}
 use lib.ListN.{length, get_or, take}
 use Rattle.tables.specs.Words.{below, every}
 use Rattle.tables.specs.Tests.{some_below}
-use Rattle.tables.specs.Bytes.{byte_at, word_at}
+use Rattle.tables.specs.Bytes.{word_at}
 use Rattle.tables.specs.Terms.{Term, term_at, parts, symbols}
 use Rattle.tables.specs.Parts.{Part}
 use Rattle.tables.specs.TermTable.{term_count, term_record, symbol_field, arity_field, row_of, term_of, terms_of}
-use Rattle.tables.specs.LiteralTable.{Literal, literal_count, literal_record, literal_of, literals_of}
+use Rattle.tables.specs.LiteralTable.{literal_count, literal_record, literal_of, literals_of}
+use Rattle.tables.specs.declared.Literal.{Literal}
 use Rattle.tables.specs.declared.Side.{Side}
 use Rattle.tables.specs.declared.Side.TheVariants.{A, B}
+use Rattle.tables.specs.Checks.{Sound, checked}
 use Rattle.tables.specs.Colours.{is_in_use, occurs_in, colourable}
 use Rattle.tables.specs.Read.{filled, colour_number, argument_rows}
 use Rattle.reading.specs.Marks.{arguments_in, Marked, LowerRows, Describes, LiteralsWithin, Inside, same_symbol_inside, parts_colour}
@@ -25,7 +27,7 @@ use Rattle.tables.proofs.Terms.{mem_part, part_le}
 use Rattle.tables.proofs.Colours.{PartOf, in_use_part, part_in_use, occurs_part, part_occurs}
 use Rattle.reading.proofs.Marks.{part_marked}
 use Rattle.tables.proofs.Filled.{filled_at, filled_behind, filled_past, filled_agree}
-use Rattle.tables.proofs.Sound.{SoundTables, length_terms_of, term_at_terms_of, term_at_past, length_row_is, arity_small, lower_arguments, sound_literal, sides_within}
+use Rattle.tables.proofs.Sound.{SoundTables, sound, length_terms_of, term_at_terms_of, term_at_past, length_row_is, arity_small, lower_arguments, sound_literal, sides_within}
 
 -- ---- the columns
 
@@ -36,23 +38,6 @@ symbol_column bs = filled 256 0 (term_count bs) (λ k. symbol_field (term_record
 -- the arity of each term record
 abbrev pub arity_column : List ℕ → List ℕ
 arity_column bs = filled 256 0 (term_count bs) (λ k. arity_field (term_record bs k))
-
--- "1 = A, 2 = B"
-abbrev pub side_number : Side → ℕ
-side_number A = 1
-side_number B = 2
-
--- two sides of one number are one
-side_number_one : (X Y : Side) → side_number X ≡ side_number Y → X ≡ Y
-side_number_one A A e = refl
-side_number_one A B e = absurd (omega arith)
-side_number_one B A e = absurd (omega arith)
-side_number_one B B e = refl
-
--- the number of the side that a byte of 1 or 2 stands for
-number_of_side : (b : ℕ) → (b ≡ 1) ⊎ (b ≡ 2) → side_number (cond (eqb b 1) A B) ≡ b
-number_of_side b (inl e) = subst (λ (c : ℕ). side_number (cond (eqb c 1) A B) ≡ c) (sym e) refl
-number_of_side b (inr e) = subst (λ (c : ℕ). side_number (cond (eqb c 1) A B) ≡ c) (sym e) refl
 
 module _ (bs ls : List ℕ) (s : SoundTables bs ls) where
   -- ---- the terms
@@ -108,11 +93,6 @@ module _ (bs ls : List ℕ) (s : SoundTables bs ls) where
 
   -- ---- the literals
 
-  -- the side's byte is the number of the literal's side
-  side_at : (k : ℕ) → k < literal_count ls → byte_at (literal_record ls k) 0 ≡ side_number (literal_of (literal_record ls k)).side
-  unfolding literal_of
-  side_at k h = sym (number_of_side (byte_at (literal_record ls k) 0) (sound_literal bs ls s k h).side)
-
   -- the literals' sides are term numbers
   pub literals_within : LiteralsWithin ls
   literals_within =
@@ -123,7 +103,7 @@ module _ (bs ls : List ℕ) (s : SoundTables bs ls) where
 
   -- ---- what is marked
 
-  module _ (X : Side) (marks : List Bool) (x : Inside (argument_rows bs) (arity_column bs) ls (side_number X) (literal_count ls) marks) where
+  module _ (X : Side) (marks : List Bool) (x : Inside (argument_rows bs) (arity_column bs) ls X (literal_count ls) marks) where
     -- what is marked stands in a literal of the side
     inside_part : (u : ℕ) → Marked marks u → (l : Literal) × Memᴰ l (literals_of ls) × (l.side ≡ X) × PartOf (terms_of bs) u l
     unfolding literals_of literal_of
@@ -132,7 +112,7 @@ module _ (bs ls : List ℕ) (s : SoundTables bs ls) where
         let k = r.0 in (
           literal_of (literal_record ls k),
           Memᴰ.map (λ i. literal_of (literal_record ls i)) (mem_below (literal_count ls) k r.1),
-          side_number_one (literal_of (literal_record ls k)).side X (sym (side_at k r.1) ∙ r.2),
+          r.2,
           r.3,
         )
 
@@ -143,7 +123,7 @@ module _ (bs ls : List ℕ) (s : SoundTables bs ls) where
         let r = Memᴰ.of_map (λ i. literal_of (literal_record ls i)) (below (literal_count ls)) m in
         let k = r.0 in
         let h : k < literal_count ls = below_mem (literal_count ls) r.1 in
-        let w = x.reached k h (side_at k h ∙ ap side_number (ap (λ (y : Literal). y.side) r.2 ∙ e)) in
+        let w = x.reached k h (ap (λ (y : Literal). y.side) r.2 ∙ e) in
         let under : (t : ℕ) → Part (terms_of bs) u t → Marked marks t → Marked marks u = λ t q n. part_marked (argument_rows bs) (arity_column bs) (terms_of bs) described marks x.closed q n in
         let lefts : word_at (literal_record ls k) 2 ≡ l.left = ap (λ (y : Literal). y.left) r.2 in
         let rights : word_at (literal_record ls k) 4 ≡ l.right = ap (λ (y : Literal). y.right) r.2 in
@@ -193,7 +173,7 @@ module _ (bs ls : List ℕ) (s : SoundTables bs ls) where
             let l : u < term_count bs = omega (arith, part_le ts (lower_arguments bs ls s) (omega (arith, length_terms_of bs)) (mem_part ts t u m)) in
             filled_at (λ k. some_below (same_symbol_inside (symbol_column bs) marks k) (term_count bs)) 256 false (term_count bs) u false l s.terms_fit ∙ occurring_at u l
 
-  module _ (a b : List Bool) (x : Inside (argument_rows bs) (arity_column bs) ls 1 (literal_count ls) a) (y : Inside (argument_rows bs) (arity_column bs) ls 2 (literal_count ls) b) where
+  module _ (a b : List Bool) (x : Inside (argument_rows bs) (arity_column bs) ls A (literal_count ls) a) (y : Inside (argument_rows bs) (arity_column bs) ls B (literal_count ls) b) where
     -- the colours that are read are those of the definitions
     pub colours_read : filled 256 0 (term_count bs) (parts_colour (occurring_column A a x) (occurring_column B b y) (terms_of bs)) ≡ filled 256 0 (term_count bs) (colour_number (terms_of bs) (literals_of ls) (terms_of bs))
     unfolding colour_number
@@ -235,7 +215,7 @@ pub record Columns : Type 0 where
   pub rows_read : rows ≡ argument_rows bs
 
 -- the terms of a side are marked in the arrays
-abbrev pub Marks : Columns → ℕ → List Bool → Type 0
+abbrev pub Marks : Columns → Side → List Bool → Type 0
 Marks c side marks = Inside c.rows c.arities c.ls side (literal_count c.ls) marks
 
 module _ (c : Columns) where
@@ -253,7 +233,7 @@ module _ (c : Columns) where
   columns_described = columns_carry (λ r a. Describes r a (terms_of c.bs)) (described c.bs c.ls c.tables)
 
   -- marks of the arrays are marks of the columns
-  columns_inside : (side : ℕ) (marks : List Bool) → Marks c side marks → Inside (argument_rows c.bs) (arity_column c.bs) c.ls side (literal_count c.ls) marks
+  columns_inside : (side : Side) (marks : List Bool) → Marks c side marks → Inside (argument_rows c.bs) (arity_column c.bs) c.ls side (literal_count c.ls) marks
   columns_inside side marks =
       columns_carry
       (λ r a. Inside r a c.ls side (literal_count c.ls) marks → Inside (argument_rows c.bs) (arity_column c.bs) c.ls side (literal_count c.ls) marks)
@@ -263,17 +243,24 @@ module _ (c : Columns) where
   abbrev pub occurs_by : List Bool → List Bool
   occurs_by marks = filled 256 false (term_count c.bs) (λ t. some_below (same_symbol_inside c.symbols marks t) (term_count c.bs))
 
-  module _ (a b : List Bool) (x : Marks c 1 a) (y : Marks c 2 b) where
+  module _ (a b : List Bool) (x : Marks c A a) (y : Marks c B b) where
     -- the terms in use, as the code has them
     pub columns_used : (used : List Bool) → used ≡ filled 256 false (term_count c.bs) (λ t. get_or a t false || get_or b t false) → used ≡ filled 256 false (term_count c.bs) (is_in_use (terms_of c.bs) (literals_of c.ls))
-    columns_used used e = e ∙ used_read c.bs c.ls c.tables a b (columns_inside 1 a x) (columns_inside 2 b y)
+    columns_used used e = e ∙ used_read c.bs c.ls c.tables a b (columns_inside A a x) (columns_inside B b y)
 
     -- the colours, as the code has them
     pub columns_colours : (in_a in_b : List Bool) (colours : List ℕ) → in_a ≡ occurs_by a → in_b ≡ occurs_by b → ((ts : List Term) → Describes c.rows c.arities ts → length ts ≡ term_count c.bs → colours ≡ filled 256 0 (term_count c.bs) (parts_colour in_a in_b ts)) → colours ≡ filled 256 0 (term_count c.bs) (colour_number (terms_of c.bs) (literals_of c.ls) (terms_of c.bs))
     columns_colours in_a in_b colours p q e =
         e (terms_of c.bs) columns_described (length_terms_of c.bs) ∙
         ap₂ (λ (u v : List Bool). filled 256 0 (term_count c.bs) (parts_colour u v (terms_of c.bs))) (p ∙ by a) (q ∙ by b) ∙
-        colours_read c.bs c.ls c.tables a b (columns_inside 1 a x) (columns_inside 2 b y)
+        colours_read c.bs c.ls c.tables a b (columns_inside A a x) (columns_inside B b y)
       where
         by : (marks : List Bool) → occurs_by marks ≡ filled 256 false (term_count c.bs) (λ t. some_below (same_symbol_inside (symbol_column c.bs) marks t) (term_count c.bs))
         by marks = ap (λ (s : List ℕ). filled 256 false (term_count c.bs) (λ t. some_below (same_symbol_inside s marks t) (term_count c.bs))) c.symbols_read
+
+-- what the checks settle of the count and of the sides
+pub few_terms : (bs ls : List ℕ) → checked bs ls ≡ Sound → term_count bs ≤ 256
+few_terms bs ls e = (sound bs ls e).terms_fit
+
+pub sides_in_table : (bs ls : List ℕ) → checked bs ls ≡ Sound → LiteralsWithin ls
+sides_in_table bs ls e = literals_within bs ls (sound bs ls e)

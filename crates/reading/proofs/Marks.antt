@@ -9,17 +9,18 @@ use native.Mathlib.Omega.{arith}
 use lib.Dec.{T, eqb, eqb→eq, eqb_refl, T_not, not_T}
 use lib.ListN.{length, get_or, set, replicate, length-set, length-replicate}
 use lib.Seq.{get_or-set_same, get_or-set_other, get_or-take, length-take-le}
-use Rattle.reading.specs.declared.literal.Fields.{Fields}
-use Rattle.reading.specs.Fields.{fields_of}
+use Rattle.tables.specs.declared.Literal.{Literal}
 use Rattle.reading.specs.Marks.{arguments_in, Marked, LowerRows, Closed, Describes, MarkedToo, StandsIn, Inside, marked_and_missing}
 use Rattle.tables.specs.Words.{every}
 use Rattle.tables.specs.Tests.{some_below}
-use Rattle.tables.specs.Bytes.{byte_at, word_at}
-use Rattle.tables.specs.LiteralTable.{literal_record}
+use Rattle.tables.specs.Bytes.{word_at}
+use Rattle.tables.specs.LiteralTable.{literal_record, literal_of, same_side}
+use Rattle.tables.specs.declared.Side.{Side}
 use Rattle.tables.specs.Terms.{Term, parts}
 use Rattle.tables.specs.Parts.{Part, itself, deeper, LowerArguments}
 use Rattle.tables.proofs.Words.{and_left, and_right, and_both, decide, passes, by_test, same_test, get_d_mem, mem_get_d, below_or_is, every_all, all_every, some_below_some, some_some_below}
 use Rattle.tables.proofs.Terms.{mem_part, part_mem, part_le}
+use Rattle.tables.proofs.Colours.{same_side_eq, same_side_self}
 
 -- ---- one mark more
 
@@ -121,7 +122,7 @@ already rows arities t marks x h = record { sized = refl; closed = x; reached = 
 
 -- ---- the terms inside the literals of a side
 
-module _ (rows : List (List ℕ)) (arities ls : List ℕ) (side : ℕ) where
+module _ (rows : List (List ℕ)) (arities ls : List ℕ) (side : Side) where
   -- the two sides of a record
   abbrev left_of : ℕ → ℕ
   left_of k = word_at (literal_record ls k) 2
@@ -144,11 +145,12 @@ module _ (rows : List (List ℕ)) (arities ls : List ℕ) (side : ℕ) where
   stands_more ts count u r = (r.0, omega (arith, r.1), r.2, r.3)
 
   -- a literal of the side: its two sides, which were read, are marked
-  pub inside_more : (k : ℕ) (l : Fields) → l ≡ fields_of (literal_record ls k) → (marks mid after : List Bool) → l.side ≡ side → Inside rows arities ls side k marks → MarkedToo rows arities l.left marks mid → MarkedToo rows arities l.right mid after → Inside rows arities ls side (k + 1) after
+  pub inside_more : (k : ℕ) (l : Literal) → l ≡ literal_of (literal_record ls k) → (marks mid after : List Bool) → same_side l.side side ≡ true → Inside rows arities ls side k marks → MarkedToo rows arities l.left marks mid → MarkedToo rows arities l.right mid after → Inside rows arities ls side (k + 1) after
+  unfolding literal_of
   inside_more k l q marks mid after e x v w =
-      let y : MarkedToo rows arities (left_of k) marks mid = subst (λ (f : Fields). MarkedToo rows arities f.left marks mid) q v in
-      let z : MarkedToo rows arities (right_of k) mid after = subst (λ (f : Fields). MarkedToo rows arities f.right mid after) q w in
-      let here : byte_at (literal_record ls k) 0 ≡ side = subst (λ (f : Fields). f.side ≡ side) q e in
+      let y : MarkedToo rows arities (left_of k) marks mid = subst (λ (f : Literal). MarkedToo rows arities f.left marks mid) q v in
+      let z : MarkedToo rows arities (right_of k) mid after = subst (λ (f : Literal). MarkedToo rows arities f.right mid after) q w in
+      let here : (literal_of (literal_record ls k)).side ≡ side = subst (λ (f : Literal). f.side ≡ side) q (same_side_eq l.side side (passes (same_side l.side side) e)) in
       record {
         sized = z.sized ∙ y.sized ∙ x.sized;
         closed = z.closed;
@@ -157,14 +159,17 @@ module _ (rows : List (List ℕ)) (arities ls : List ℕ) (side : ℕ) where
       }
 
   -- a literal of the other side: nothing is marked
-  pub inside_same : (k : ℕ) (l : Fields) → l ≡ fields_of (literal_record ls k) → (marks : List Bool) → (l.side ≡ side → ⊥) → Inside rows arities ls side k marks → Inside rows arities ls side (k + 1) marks
+  pub inside_same : (k : ℕ) (l : Literal) → l ≡ literal_of (literal_record ls k) → (marks : List Bool) → same_side l.side side ≡ false → Inside rows arities ls side k marks → Inside rows arities ls side (k + 1) marks
   inside_same k l q marks n x =
       record {
         sized = x.sized;
         closed = x.closed;
-        reached = λ i h p. ⊎_elim (λ (m : i < k). x.reached i m p) (λ (m : i ≡ k). absurd (n (ap (λ (f : Fields). f.side) q ∙ ap (λ (j : ℕ). byte_at (literal_record ls j) 0) (sym m) ∙ p))) (below_or_is i k (omega (arith, h)));
+        reached = λ i h p. ⊎_elim (λ (m : i < k). x.reached i m p) (λ (m : i ≡ k). absurd (other (ap (λ (f : Literal). f.side) q ∙ ap (λ (j : ℕ). (literal_of (literal_record ls j)).side) (sym m) ∙ p))) (below_or_is i k (omega (arith, h)));
         only = λ ts d u m. stands_more ts k u (x.only ts d u m);
       }
+    where
+      other : l.side ≡ side → ⊥
+      other e = subst T n (subst (λ (X : Side). T (same_side l.side X)) e (same_side_self l.side))
 
 -- ---- marks and parts
 

@@ -2,10 +2,11 @@
 use Rattle.std.specs.Prelude.{Bool, false, cond, not, ◌&&◌, ◌⊎◌, ◌≡◌, ℕ, ◌+◌, ◌≤◌, ◌<◌, T, eqb, length, get_or, take}
 use mathlib.Core.List.{List, [], Memᴰ}
 use Rattle.tables.specs.Words.{every}
-use Rattle.tables.specs.Bytes.{byte_at, word_at}
+use Rattle.tables.specs.Bytes.{word_at}
 use Rattle.tables.specs.Terms.{Term, term_at, parts}
 use Rattle.tables.specs.Parts.{Part}
-use Rattle.tables.specs.LiteralTable.{literal_count, literal_record}
+use Rattle.tables.specs.LiteralTable.{literal_count, literal_record, literal_of}
+use Rattle.tables.specs.declared.Side.{Side}
 
 -- the arguments of term t: as many of its row as its arity says
 abbrev pub arguments_in : List (List ℕ) → List ℕ → ℕ → List ℕ
@@ -50,15 +51,15 @@ pub record LiteralsWithin (ls : List ℕ) : Type 0 where
   pub right : (k : ℕ) → k < literal_count ls → word_at (literal_record ls k) 4 < 256
 
 -- u is a part of a side of a literal of the named side, among the first literals
-abbrev pub StandsIn : List Term → List ℕ → ℕ → ℕ → ℕ → Type 0
+abbrev pub StandsIn : List Term → List ℕ → Side → ℕ → ℕ → Type 0
 StandsIn ts ls side count u =
-    (k : ℕ) × (k < count) × (byte_at (literal_record ls k) 0 ≡ side) × (Part ts u (word_at (literal_record ls k) 2) ⊎ Part ts u (word_at (literal_record ls k) 4))
+    (k : ℕ) × (k < count) × ((literal_of (literal_record ls k)).side ≡ side) × (Part ts u (word_at (literal_record ls k) 2) ⊎ Part ts u (word_at (literal_record ls k) 4))
 
 -- the sides of these literals and all their parts are marked, and nothing else is
-pub record Inside (rows : List (List ℕ)) (arities ls : List ℕ) (side count : ℕ) (marks : List Bool) : Type 0 where
+pub record Inside (rows : List (List ℕ)) (arities ls : List ℕ) (side : Side) (count : ℕ) (marks : List Bool) : Type 0 where
   pub sized : length marks ≡ 256
   pub closed : Closed rows arities marks
-  pub reached : (k : ℕ) → k < count → byte_at (literal_record ls k) 0 ≡ side → Marked marks (word_at (literal_record ls k) 2) × Marked marks (word_at (literal_record ls k) 4)
+  pub reached : (k : ℕ) → k < count → (literal_of (literal_record ls k)).side ≡ side → Marked marks (word_at (literal_record ls k) 2) × Marked marks (word_at (literal_record ls k) 4)
   pub only : (ts : List Term) → Describes rows arities ts → (u : ℕ) → Marked marks u → StandsIn ts ls side count u
 
 -- u is inside and has the symbol of t

@@ -1,35 +1,22 @@
-// Bytes of a table: the numbers in them, and whether two byte strings are the same.
+// Bytes of a table: its records, and the numbers in them.
 
-ghost use Rattle.std.specs.Prelude.{◌≡◌, ◌+◌, ◌<◌, min, length};
-ghost use Rattle.tables.specs.Bytes.{word_at};
-ghost use Rattle.tables.specs.Words.{same as same_lists};
+ghost use Rattle.std.specs.Prelude.{◌≡◌, ◌+◌, ◌*◌, ◌≤◌, ◌<◌, length};
+ghost use Rattle.tables.specs.Bytes.{word_at, record_at};
+
+// The bytes of record k of a table of SIZE bytes a record, so that a field is read at its own offset.
+pub fn record<const SIZE: usize>(table: &[u8], k: usize) -> &[u8]
+    requires { SIZE * k + SIZE ≤ length table.now }
+    ensures { (result.now ≡ record_at SIZE table.now k) × (length result.now ≡ SIZE) }
+{
+    let start = SIZE * k;
+    let end = start + SIZE;
+    &table[start..end]
+}
 
 // "numbers little-endian": the low byte first.
 pub fn word_at(s: &[u8], at: usize) -> u16
     requires { at + 1 < length s.now }
     ensures { result ≡ word_at s.now at }
 {
-    (s[at] as u16) + 256 * (s[at + 1] as u16)
-}
-
-// Whether two byte strings of one length are the same; the first difference settles it.
-pub fn same(a: &[u8], b: &[u8]) -> bool
-    requires { length a.now ≡ length b.now }
-    ensures { result ≡ same_lists a.now b.now }
-{
-    let mut i = 0;
-    while i < a.len() {
-        if a[i] != b[i] {
-            return false;
-        }
-        i += 1;
-    }
-    true
-}
-
-// How many of the records an array of a size holds: no table, however long, writes past the array.
-pub fn fitting(count: usize, size: usize) -> usize
-    ensures { result ≡ min count size }
-{
-    if count < size { count } else { size }
+    u16::from_le_bytes([s[at], s[at + 1]])
 }

@@ -5,44 +5,34 @@ ghost use Rattle.std.specs.Prelude.{◌≡◌, ◌+◌, ◌*◌, ◌≤◌, ◌<
 ghost use Rattle.tables.specs.Bytes.{word_at};
 ghost use Rattle.tables.specs.Tests.{some_below, equal_records, equals_earlier};
 ghost use Rattle.tables.specs.TermTable.{term_count};
-ghost use Rattle.tables.specs.Checks.{found_of, arity_row, repeated_row};
+ghost use Rattle.tables.specs.Checks.{arity_row, repeated_row};
 ghost use Rattle.reading.specs.Keys.{other_arity_in, record_key, record_keys, same_key};
 
-use super::{bytes, term_table};
-use tables::Found;
+use super::{bytes, filling, term_table};
+use tables::{TERM_BYTES, TERMS};
 
 // Row 4: "a symbol had another arity in an earlier record", of the columns.
-fn had_other_arity(symbols: &[u16; 256], arities: &[u8; 256], k: usize) -> bool
+fn had_other_arity(symbols: &[u16; TERMS], arities: &[u8; TERMS], k: usize) -> bool
     requires { k < 256 }
     ensures { result ≡ some_below (other_arity_in symbols.now arities.now k) k }
 {
     let symbol = symbols[k];
     let arity = arities[k];
     let mut found = false;
-    let mut j = 0;
-    while j < k {
-        found = found | ((symbols[j] == symbol) & (arities[j] != arity));
-        j += 1;
+    for j in 0..k {
+        found |= (symbols[j] == symbol) & (arities[j] != arity);
     }
     found
 }
 
 // Row 4's place: the first record whose symbol had another arity.
-pub fn arity_row(terms: &[u8]) -> Found
+pub fn arity_row(terms: &[u8]) -> Option<usize>
     requires { term_count terms.now ≤ 256 }
-    ensures { found_of result ≡ arity_row terms.now }
+    ensures { result ≡ arity_row terms.now }
 {
     let symbols = term_table::term_words(terms, 0);
     let arities = term_table::term_bytes(terms, 2);
-    let count = terms.len() / 16;
-    let mut k = 0;
-    while k < count {
-        if had_other_arity(&symbols, &arities, k) {
-            return Found::At(k);
-        }
-        k += 1;
-    }
-    Found::Nothing
+    (0..terms.len() / TERM_BYTES).find(|&k| had_other_arity(&symbols, &arities, k))
 }
 
 // A number of a record among the digits of its key.
@@ -67,30 +57,25 @@ fn record_key(r: &[u8]) -> u64
 }
 
 // The key of each record.
-fn record_keys(terms: &[u8]) -> [u64; 256]
+fn record_keys(terms: &[u8]) -> [u64; TERMS]
     ensures { result ≡ record_keys terms.now }
 {
-    let mut keys = [0u64; 256];
-    let count = bytes::fitting(terms.len() / 16, 256);
-    let mut k = 0;
-    while k < count {
-        keys[k] = record_key(term_table::term_record(terms, k));
-        k += 1;
-    }
-    keys
+    filling::filled(
+        terms.len() / TERM_BYTES,
+        0,
+        |k| record_key(bytes::record::<TERM_BYTES>(terms, k)),
+    )
 }
 
 // Whether an earlier record has the key of record k.
-fn had_key(keys: &[u64; 256], k: usize) -> bool
+fn had_key(keys: &[u64; TERMS], k: usize) -> bool
     requires { k < 256 }
     ensures { result ≡ some_below (same_key keys.now k) k }
 {
     let key = keys[k];
     let mut found = false;
-    let mut j = 0;
-    while j < k {
-        found = found | (keys[j] == key);
-        j += 1;
+    for j in 0..k {
+        found |= keys[j] == key;
     }
     found
 }
@@ -100,10 +85,7 @@ fn equal_records(terms: &[u8], k: usize, j: usize) -> bool
     requires { (16 * k + 16 ≤ length terms.now) × (16 * j + 16 ≤ length terms.now) }
     ensures { result ≡ equal_records terms.now k j }
 {
-    bytes::same(
-        term_table::term_record(terms, j),
-        term_table::term_record(terms, k),
-    )
+    bytes::record::<TERM_BYTES>(terms, j) == bytes::record::<TERM_BYTES>(terms, k)
 }
 
 // Row 5: "a term record equals an earlier one", by the bytes.
@@ -111,29 +93,22 @@ fn equals_earlier(terms: &[u8], k: usize) -> bool
     requires { 16 * k + 16 ≤ length terms.now }
     ensures { result ≡ equals_earlier terms.now k }
 {
-    let mut j = 0;
-    while j < k {
-        if equal_records(terms, k, j) {
-            return true;
-        }
-        j += 1;
-    }
-    false
+    (0..k).any(|j| equal_records(terms, k, j))
 }
 
-// Row 5's place: the first record that equals an earlier one. The bytes are compared only where the keys leave it open.
-pub fn repeated_row(terms: &[u8]) -> Found
+// Row 5, of record k. The bytes are compared only where the keys leave it open.
+fn is_repeated(keys: &[u64; TERMS], terms: &[u8], k: usize) -> bool
+    requires { (keys.now ≡ record_keys terms.now) × (term_count terms.now ≤ 256) × (k < term_count terms.now) }
+    ensures { result ≡ equals_earlier terms.now k }
+{
+    had_key(keys, k) && equals_earlier(terms, k)
+}
+
+// Row 5's place: the first record that equals an earlier one.
+pub fn repeated_row(terms: &[u8]) -> Option<usize>
     requires { term_count terms.now ≤ 256 }
-    ensures { found_of result ≡ repeated_row terms.now }
+    ensures { result ≡ repeated_row terms.now }
 {
     let keys = record_keys(terms);
-    let count = terms.len() / 16;
-    let mut k = 0;
-    while k < count {
-        if had_key(&keys, k) && equals_earlier(terms, k) {
-            return Found::At(k);
-        }
-        k += 1;
-    }
-    Found::Nothing
+    (0..terms.len() / TERM_BYTES).find(|&k| is_repeated(&keys, terms, k))
 }

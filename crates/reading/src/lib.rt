@@ -8,6 +8,7 @@ mod bytes;
 pub mod checks;
 mod colouring;
 mod earlier;
+mod filling;
 pub mod literal;
 mod literal_table;
 mod term_table;
@@ -15,16 +16,13 @@ mod term_table;
 ghost use Rattle.std.specs.Prelude.{◌≡◌};
 ghost use Rattle.tables.specs.Read.{tables_read};
 
-use tables::{Check, Tables};
+use tables::{Refusal, Tables};
 
 // Any two byte strings, read: the row that refuses them with its place, or the tables as arrays.
-pub fn read(terms: &[u8], literals: &[u8]) -> Tables
+#[tactic(auto, using(tables::proofs::Sound::sound_read, tables::proofs::Sound::refused_read))]
+pub fn read(terms: &[u8], literals: &[u8]) -> Result<Tables, Refusal>
     ensures { result ≡ tables_read terms.now literals.now }
 {
-    let check = checks::check(terms, literals);
-    if let Check::Sound = check {
-        arrays::sound(terms, literals)
-    } else {
-        arrays::refused(check)
-    }
+    checks::check(terms, literals)?;
+    Ok(arrays::sound(terms, literals))
 }

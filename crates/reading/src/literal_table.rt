@@ -1,26 +1,16 @@
-// The literal table of document 01: its records, and row 6 of the checks. The tests of one record are joined by |, so that each is
+// The literal table of document 01: row 6 of the checks. The tests of one record are joined by |, so that each is
 // the definition's own.
 
 ghost use Rattle.std.specs.Prelude.{◌≡◌, ◌+◌, ◌*◌, ◌≤◌, length};
 ghost use Rattle.tables.specs.Words.{first_below};
-ghost use Rattle.tables.specs.LiteralTable.{literal_count, literal_record};
+ghost use Rattle.tables.specs.LiteralTable.{literal_count};
 ghost use Rattle.tables.specs.Tests.{not_one_or_two, breaks_literal};
-ghost use Rattle.tables.specs.Checks.{found_of};
 
 use super::bytes;
-use tables::Found;
-
-// The bytes of literal record k, so that a field is read at its own offset.
-pub fn literal_record(literals: &[u8], k: usize) -> &[u8]
-    requires { 8 * k + 8 ≤ length literals.now }
-    ensures { (result.now ≡ literal_record literals.now k) × (length result.now ≡ 8) }
-{
-    let start = 8 * k;
-    let end = start + 8;
-    &literals[start..end]
-}
+use tables::LITERAL_BYTES;
 
 // "side or kind not 1 or 2".
+#[tactic(auto, unfolding(tables::specs::Tests::not_one_or_two))]
 fn not_one_or_two(b: u8) -> bool
     ensures { result ≡ not_one_or_two b }
 {
@@ -28,11 +18,12 @@ fn not_one_or_two(b: u8) -> bool
 }
 
 // Row 6, of literal record k in a table of so many terms.
+#[tactic(auto, unfolding(tables::specs::Tests::breaks_literal))]
 fn breaks_literal(terms: usize, literals: &[u8], k: usize) -> bool
     requires { 8 * k + 8 ≤ length literals.now }
     ensures { result ≡ breaks_literal terms literals.now k }
 {
-    let r = literal_record(literals, k);
+    let r = bytes::record::<LITERAL_BYTES>(literals, k);
     let side = not_one_or_two(r[0]);
     let kind = not_one_or_two(r[1]);
     let left = terms <= bytes::word_at(r, 2) as usize;
@@ -42,16 +33,8 @@ fn breaks_literal(terms: usize, literals: &[u8], k: usize) -> bool
 }
 
 // Row 6's place: the first literal record that breaks it.
-pub fn literal_row(terms: usize, literals: &[u8]) -> Found
-    ensures { found_of result ≡ first_below (breaks_literal terms literals.now) (literal_count literals.now) }
+pub fn literal_row(terms: usize, literals: &[u8]) -> Option<usize>
+    ensures { result ≡ first_below (breaks_literal terms literals.now) (literal_count literals.now) }
 {
-    let count = literals.len() / 8;
-    let mut k = 0;
-    while k < count {
-        if breaks_literal(terms, literals, k) {
-            return Found::At(k);
-        }
-        k += 1;
-    }
-    Found::Nothing
+    (0..literals.len() / LITERAL_BYTES).find(|&k| breaks_literal(terms, literals, k))
 }

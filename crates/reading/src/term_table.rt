@@ -1,25 +1,15 @@
-// The term table of document 01: its records, row 3 of the checks, and its columns as arrays. The tests of one record are joined
+// The term table of document 01: row 3 of the checks, and its columns as arrays. The tests of one record are joined
 // by | and &, so that each is the definition's own.
 
 ghost use Rattle.std.specs.Prelude.{◌||◌, ◌≡◌, ◌+◌, ◌*◌, ◌≤◌, ◌<◌, length};
 ghost use Rattle.tables.specs.Bytes.{byte_at, word_at};
 ghost use Rattle.tables.specs.Tests.{some_below, spare_wrong, not_lower, unused_not_zero, breaks_layout};
 ghost use Rattle.tables.specs.TermTable.{term_count, term_record, row_of};
-ghost use Rattle.tables.specs.Checks.{found_of, layout_row};
+ghost use Rattle.tables.specs.Checks.{layout_row};
 ghost use Rattle.tables.specs.Read.{filled};
 
-use super::bytes;
-use tables::Found;
-
-// The bytes of term record k, so that a field is read at its own offset.
-pub fn term_record(terms: &[u8], k: usize) -> &[u8]
-    requires { 16 * k + 16 ≤ length terms.now }
-    ensures { (result.now ≡ term_record terms.now k) × (length result.now ≡ 16) }
-{
-    let start = 16 * k;
-    let end = start + 16;
-    &terms[start..end]
-}
+use super::{bytes, filling};
+use tables::{TERM_BYTES, TERMS};
 
 // "3 zero", "12-15 zero".
 fn spare_wrong(r: &[u8]) -> bool
@@ -30,6 +20,7 @@ fn spare_wrong(r: &[u8]) -> bool
 }
 
 // An argument within the arity has to be lower than the record's own number, one past it zero.
+#[tactic(auto, unfolding(tables::specs::Tests::not_lower, tables::specs::Tests::unused_not_zero))]
 fn argument_wrong(r: &[u8], k: usize, j: usize) -> bool
     requires { (length r.now ≡ 16) × (j < 4) }
     ensures { result ≡ (not_lower k r.now j || unused_not_zero r.now j) }
@@ -44,14 +35,7 @@ fn arguments_wrong(r: &[u8], k: usize) -> bool
     requires { length r.now ≡ 16 }
     ensures { result ≡ some_below (λ j. not_lower k r.now j || unused_not_zero r.now j) 4 }
 {
-    let mut j = 0;
-    while j < 4 {
-        if argument_wrong(r, k, j) {
-            return true;
-        }
-        j += 1;
-    }
-    false
+    (0..4).any(|j| argument_wrong(r, k, j))
 }
 
 // Row 3: "a term record breaks its layout".
@@ -59,65 +43,51 @@ fn breaks_layout(terms: &[u8], k: usize) -> bool
     requires { 16 * k + 16 ≤ length terms.now }
     ensures { result ≡ breaks_layout terms.now k }
 {
-    let r = term_record(terms, k);
+    let r = bytes::record::<TERM_BYTES>(terms, k);
     (r[2] > 4) | spare_wrong(r) | arguments_wrong(r, k)
 }
 
 // Row 3's place: the first record that breaks its layout.
-pub fn layout_row(terms: &[u8]) -> Found
-    ensures { found_of result ≡ layout_row terms.now }
+pub fn layout_row(terms: &[u8]) -> Option<usize>
+    ensures { result ≡ layout_row terms.now }
 {
-    let count = terms.len() / 16;
-    let mut k = 0;
-    while k < count {
-        if breaks_layout(terms, k) {
-            return Found::At(k);
-        }
-        k += 1;
-    }
-    Found::Nothing
+    (0..terms.len() / TERM_BYTES).find(|&k| breaks_layout(terms, k))
 }
 
 // The byte at an offset of each record: the arities.
-pub fn term_bytes(terms: &[u8], at: usize) -> [u8; 256]
+pub fn term_bytes(terms: &[u8], at: usize) -> [u8; TERMS]
     requires { at < 16 }
     ensures { result ≡ filled 256 0 (term_count terms.now) (λ k. byte_at (term_record terms.now k) at) }
 {
-    let mut column = [0u8; 256];
-    let count = bytes::fitting(terms.len() / 16, 256);
-    let mut k = 0;
-    while k < count {
-        let r = term_record(terms, k);
-        column[k] = r[at];
-        k += 1;
-    }
-    column
+    filling::filled(
+        terms.len() / TERM_BYTES,
+        0,
+        |k| bytes::record::<TERM_BYTES>(terms, k)[at],
+    )
 }
 
 // The number at an offset of each record: the symbols.
-pub fn term_words(terms: &[u8], at: usize) -> [u16; 256]
+pub fn term_words(terms: &[u8], at: usize) -> [u16; TERMS]
     requires { at + 1 < 16 }
     ensures { result ≡ filled 256 0 (term_count terms.now) (λ k. word_at (term_record terms.now k) at) }
 {
-    let mut column = [0u16; 256];
-    let count = bytes::fitting(terms.len() / 16, 256);
-    let mut k = 0;
-    while k < count {
-        let r = term_record(terms, k);
-        column[k] = bytes::word_at(r, at);
-        k += 1;
-    }
-    column
+    filling::filled(
+        terms.len() / TERM_BYTES,
+        0,
+        |k| bytes::word_at(bytes::record::<TERM_BYTES>(terms, k), at),
+    )
 }
 
 // A record's four arguments as a row, used or not.
+#[tactic(auto, unfolding(tables::specs::TermTable::row_of))]
 pub fn row(r: &[u8]) -> [u16; 4]
     requires { length r.now ≡ 16 }
     ensures { result ≡ row_of r.now }
 {
-    let first = bytes::word_at(r, 4);
-    let second = bytes::word_at(r, 6);
-    let third = bytes::word_at(r, 8);
-    let fourth = bytes::word_at(r, 10);
-    [first, second, third, fourth]
+    [
+        bytes::word_at(r, 4),
+        bytes::word_at(r, 6),
+        bytes::word_at(r, 8),
+        bytes::word_at(r, 10),
+    ]
 }

@@ -1,15 +1,8 @@
--- `reading::literal_table::literal_row` meets its contract. The invariant: no record passed breaks row 6. The measure is what is left of them.
-use Rattle.tables.proofs.Records.{not_yet, first_found, not_more, not_found}
+-- `reading::literal_table::literal_row` meets its contract: what is found is the first record that breaks row 6.
+use Rattle.std.proofs.Common.{refl, rules}
+use Rattle.tables.specs.Tests.{breaks_literal}
+use Rattle.tables.proofs.Searches.{found_first}
 use Rattle.reading.proofs.literal_table.literal_row.Goals as goal
 
-pub loop-k-init : goal.loop-k-init
-loop-k-init c = not_yet _ _
-
-pub returns-then-breaks_literal : goal.returns-then-breaks_literal
-returns-then-breaks_literal c = first_found _ _ _ _ c.loop-k.invariant c.loop-k-test.true c.breaks_literal.ensures c.if-breaks_literal.true
-
-pub loop-k-preserved : goal.loop-k-preserved
-loop-k-preserved c = not_more _ _ _ _ c.loop-k.invariant c.loop-k-test.true c.breaks_literal.ensures c.if-breaks_literal.false
-
 pub returns : goal.returns
-returns c = not_found _ _ _ c.loop-k.invariant c.loop-k-test.false
+returns c = found_first (breaks_literal c.args.terms c.args.literals.now) _ _ _ _ c.find.ensures.ran refl (λ x b q k. search rules)

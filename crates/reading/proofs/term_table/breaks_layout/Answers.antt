@@ -7,7 +7,7 @@ use Rattle.reading.proofs.term_table.breaks_layout.Goals as goal
 pub returns : goal.returns
 unfolding breaks_layout arity_wrong
 returns c = let k = c.args.k in
-    let r = c.term_record-r.result.now in
+    let r = c.record-r.result.now in
     cc (
       some_either (not_lower k r) (unused_not_zero r) 4,
       or_assoc (arity_wrong r || spare_wrong r) (some_below (not_lower k r) 4) (some_below (unused_not_zero r) 4),
