@@ -1,11 +1,11 @@
 -- An array that a loop changes in place from the front.
-use mathlib.Core.List.{List, [], ◌∷◌, ◌++◌, map, map-append, append-nil, append_assoc}
+use mathlib.Core.List.{List, [], ◌∷◌, ◌++◌, map, map-append, append_assoc}
 use mathlib.Core.Path.{◌≡◌, sym, ap, ap₂, ◌∙◌}
 use Prim.Native.Nat.{ℕ, suc, ◌+◌, ◌≤◌, ◌<◌}
 use native.Mathlib.Numerals.{add-one}
 use native.Mathlib.Omega.{arith}
 use lib.ListN.{length, get_or, take, drop, set, length-map, length-take}
-use lib.Seq.{take-suc, take-length, drop-cons, drop-length, set_at, get_or_at}
+use lib.Seq.{take-suc, drop-cons, set_at, get_or_at}
 
 module _ (f : ℕ → ℕ) (xs : List ℕ) where
   -- the array once its first i places are changed
@@ -32,10 +32,6 @@ module _ (f : ℕ → ℕ) (xs : List ℕ) where
       ap (λ (l : List ℕ). map f l ++ drop (suc i) xs) (sym (take-suc xs i 0 h)) ∙
       ap (λ (n : ℕ). changed n) (sym (add-one i))
 
-  -- all places are changed
-  pub changed_all : changed (length xs) ≡ map f xs
-  changed_all = ap₂ (λ (a b : List ℕ). map f a ++ b) (take-length xs) (drop-length xs) ∙ append-nil (map f xs)
-
   -- the loops that change an array in place from the front
   abbrev pub Changing : ℕ → List ℕ → Type 0
   Changing i ys = (i ≤ length xs) × (ys ≡ changed i)
@@ -46,6 +42,3 @@ module _ (f : ℕ → ℕ) (xs : List ℕ) where
     omega arith,
     ap₂ (λ (l : List ℕ) (z : ℕ). set l i z) w.1 (e ∙ ap f (ap (λ (l : List ℕ). get_or l i 0) w.1 ∙ changed_at i h)) ∙ changed_more i h,
   )
-
-  pub changing_all : (i : ℕ) (ys : List ℕ) → Changing i ys → length xs ≤ i → ys ≡ map f xs
-  changing_all i ys w h = let e : i ≡ length xs = omega arith in w.1 ∙ ap changed e ∙ changed_all

@@ -1,6 +1,6 @@
 -- Two climbs toward the root, from the ends of a path, until they meet.
 use mathlib.Core.List.Memᴰ
-use mathlib.Core.List.{List, [], ◌∷◌, ◌++◌, map, map-append, append_assoc, append-nil, Memᴰ}
+use mathlib.Core.List.{List, [], ◌∷◌, ◌++◌, map, map-append, append_assoc, Memᴰ}
 use mathlib.Core.Logic.{inl, inr, ⊎_elim}
 use mathlib.Core.Path.{◌≡◌, refl, sym, ap, ap₂, subst, ◌∙◌}
 use Prim.Native.Nat.{ℕ, suc, ◌+◌, ◌-◌, ◌≤◌, ◌<◌}
@@ -9,12 +9,14 @@ use native.Mathlib.Numerals.{add-one}
 use native.Mathlib.Omega.{arith}
 use lib.Dec.{T}
 use lib.ListN.{length, get_or, take, drop, set, length-append, length-set, length-map, length-drop, drop_of_length-le}
-use lib.Seq.{length-take-le, take-suc-set, take-set-le, drop-set-lt, drop-cons, get_or-set_same, lt-length-set}
+use lib.Seq.{take-length, take-paste, length-take-le, take-suc-set, take-set-le, drop-set-lt, drop-cons, get_or-set_same, lt-length-set}
+use Rattle.std.specs.List.{copy_within}
 use Rattle.closure.specs.Graph.{Graph, Path, joined, path, vertices}
 use Rattle.closure.specs.Walks.{Walk, stay, hop, Once, nothing, new}
 use Rattle.closure.specs.Forests.{Forest}
 use Rattle.graphs.specs.Rooting.{number, Toward, Leads, RootedBy}
-use Rattle.graphs.specs.Trails.{Joining, TrailOf, Room, trail}
+use Rattle.graphs.specs.declared.rooting.Rooting.{Rooting}
+use Rattle.graphs.specs.Trails.{Joining, TrailOf}
 use Rattle.closure.proofs.Walking.Joined.{joined_label, joined_sym, joined_trans}
 use Rattle.closure.proofs.Walking.Walks.{walk_joined, walk_append}
 use Rattle.closure.proofs.Walking.OnePath.{once_left, once_right, once_apart, once_append, vertices_append, turned, turned_hop, one_path}
@@ -33,36 +35,13 @@ drop_more l k x p h =
     drop-cons (set l (k - 1) x) (k - 1) 0 (lt-length-set l (k - 1) x (omega arith)) ∙
     ap₂ ◌∷◌ (get_or-set_same l (k - 1) x 0 (omega arith)) (drop-set-lt (suc (k - 1)) l (k - 1) x (omega arith) ∙ ap (λ (i : ℕ). drop i l) n)
 
--- ---- a list closed up
-
--- what holds of the list m, which was l, when the numbers from place i on are still to be put behind the first k
-pub record Closing (l : List ℕ) (to from : ℕ) (m : List ℕ) (k i : ℕ) : Type 0 where
-  pub long : length m ≡ 511
-  pub order : k ≤ i
-  pub short : i ≤ 511
-  pub gap : k + from ≡ i + to
-  pub whole : take k m ++ drop i m ≡ take to l ++ drop from l
-
-module _ {l : List ℕ} {to from : ℕ} {m : List ℕ} {k i : ℕ} (w : Closing l to from m k i) where
-  -- one of them
-  pub closing_more : i < 511 → Closing l to from (set m k (get_or m i 0)) (k + 1) (i + 1)
-  closing_more h =
-      record {
-        long = length-set m k (get_or m i 0) ∙ w.long;
-        order = omega (arith, w.order);
-        short = omega arith;
-        gap = omega (arith, w.gap);
-        whole = ap₂ (λ (x y : List ℕ). x ++ y) (take_more m k (get_or m i 0) (omega (arith, w.long, w.order))) (drop-set-lt (i + 1) m k (get_or m i 0) (omega (arith, w.order))) ∙
-            append_assoc (take k m) (get_or m i 0 ∷ []) (drop (i + 1) m) ∙
-            ap (λ (x : List ℕ). take k m ++ x) (rw add-one (sym (drop-cons m i 0 (omega (arith, w.long))))) ∙
-            w.whole;
-      }
-
-  -- all of them
-  pub closing_all : from ≤ 511 → 511 ≤ i → take (to + (511 - from)) m ≡ take to l ++ drop from l
-  closing_all f h =
-      let n : to + (511 - from) ≡ k = omega (arith, w.gap, w.short) in
-      ap (λ (x : ℕ). take x m) n ∙ sym (append-nil (take k m)) ∙ ap (λ (x : List ℕ). take k m ++ x) (sym (drop_of_length-le m {i = i} (omega (arith, w.long)))) ∙ w.whole
+-- what stands from one place on put behind what stands before another
+pub closed_up : (l m : List ℕ) {to from : ℕ} → length l ≡ 511 → to ≤ from → from ≤ 511 → m ≡ copy_within l from (length l) to → take (to + (511 - from)) m ≡ take to l ++ drop from l
+closed_up l m {to} {from} long h k e =
+    let n : 511 - from ≡ length l - from = omega (arith, long) in
+    ap₂ (λ (x : List ℕ) (y : ℕ). take (to + y) x) e n ∙
+    take-paste l to (drop from l) (length l - from) (omega (arith, long)) (omega (arith, length-drop from l)) ∙
+    ap (λ (x : List ℕ). take to l ++ x) (ap (λ (y : ℕ). take y (drop from l)) (sym (length-drop from l)) ∙ take-length (drop from l))
 
 -- ---- where the climbs have been
 
@@ -131,10 +110,10 @@ module _ (rank F R : List ℕ) {a b : ℕ} (t : ℕ) (p : Apart rank F R a b) (d
       }
 
 -- of two joined vertices one that stands no lower than the other is no root
-pub no_root : (G : Graph) (toward by rank : List ℕ) → RootedBy G toward by rank → {a b : ℕ} → a < 511 → b < 511 → T (joined G a b) → (a ≡ b → ⊥) → get_or rank b 0 ≤ get_or rank a 0 → Toward G toward by rank a
-no_root G toward by rank r {a} {b} ha hb j d h = go (r a ha).1 (r b hb).1
+pub no_root : (G : Graph) (r : Rooting) → RootedBy G r → {a b : ℕ} → a < 511 → b < 511 → T (joined G a b) → (a ≡ b → ⊥) → get_or r.rank b 0 ≤ get_or r.rank a 0 → Toward G r a
+no_root G r w {a} {b} ha hb j d h = go (w a ha).1 (w b hb).1
   where
-    go : Leads G toward by rank a → Leads G toward by rank b → Toward G toward by rank a
+    go : Leads G r a → Leads G r b → Toward G r a
     go (inr t) l = t
     go (inl p) (inl q) = absurd (d (sym p.0 ∙ joined_label G a b j ∙ q.0))
     go (inl p) (inr t) = absurd (omega (arith, p.1, t.lower, t.reached))
@@ -152,9 +131,9 @@ pub record Walked (G : Graph) (F FE R RE : List ℕ) (u v a b : ℕ) : Type 0 wh
   pub rear_stops : R ≡ map (λ h. h.to) rear
   pub rear_edges : RE ≡ map number rear
 
-module _ {G : Graph} {toward by rank F FE R RE : List ℕ} {u v a b : ℕ} (w : Walked G F FE R RE u v a b) where
+module _ {G : Graph} {r : Rooting} {F FE R RE : List ℕ} {u v a b : ℕ} (w : Walked G F FE R RE u v a b) where
   -- the first goes on
-  pub walked_left : Toward G toward by rank a → Walked G (F ++ (a ∷ [])) (FE ++ (get_or by a 0 ∷ [])) R RE u v (get_or toward a 0) b
+  pub walked_left : Toward G r a → Walked G (F ++ (a ∷ [])) (FE ++ (get_or r.by a 0 ∷ [])) R RE u v (get_or r.toward a 0) b
   walked_left t =
       record {
         front = w.front ++ (t.way ∷ []);
@@ -168,7 +147,7 @@ module _ {G : Graph} {toward by rank F FE R RE : List ℕ} {u v a b : ℕ} (w : 
       }
 
   -- the second goes on
-  pub walked_right : Toward G toward by rank b → Walked G F FE (b ∷ R) (get_or by b 0 ∷ RE) u v a (get_or toward b 0)
+  pub walked_right : Toward G r b → Walked G F FE (b ∷ R) (get_or r.by b 0 ∷ RE) u v a (get_or r.toward b 0)
   walked_right t =
       record {
         front = w.front;
@@ -204,15 +183,15 @@ walked_path G f {F} {FE} {R} {RE} {u} {v} {a} {b} w q o =
 -- ---- the arrays
 
 -- what holds of the code's arrays while the climbs have not met: where the first was stands from their first place on, where the second was before their last
-pub record Climbing (toward by rank : List ℕ) (u v : ℕ) (stops edges : List ℕ) (a b up top : ℕ) : Type 0 where
-  pub long : Room stops edges
+pub record Climbing (r : Rooting) (u v : ℕ) (stops edges : List ℕ) (a b up top : ℕ) : Type 0 where
+  pub long : (length stops ≡ 511) × (length edges ≡ 511)
   pub short : (up ≤ 511) × (top ≤ 511)
-  pub apart : Apart rank (take up stops) (drop top stops) a b
-  pub walked : (G : Graph) → Joining toward by rank u v G → Walked G (take up stops) (take up edges) (drop top stops) (drop top edges) u v a b
+  pub apart : Apart r.rank (take up stops) (drop top stops) a b
+  pub walked : (G : Graph) → Joining r u v G → Walked G (take up stops) (take up edges) (drop top stops) (drop top edges) u v a b
 
 -- at the start
-pub climbing_none : (toward by rank : List ℕ) (u v : ℕ) (stops edges : List ℕ) → Room stops edges → u < 511 → v < 511 → Climbing toward by rank u v stops edges u v 0 511
-climbing_none toward by rank u v stops edges l hu hv =
+pub climbing_none : (r : Rooting) (u v : ℕ) (stops edges : List ℕ) → (length stops ≡ 511) × (length edges ≡ 511) → u < 511 → v < 511 → Climbing r u v stops edges u v 0 511
+climbing_none r u v stops edges l hu hv =
     let s : drop 511 stops ≡ [] = drop_of_length-le stops {i = 511} (omega (arith, l.0)) in
     let e : drop 511 edges ≡ [] = drop_of_length-le edges {i = 511} (omega (arith, l.1)) in
     record {
@@ -222,7 +201,7 @@ climbing_none toward by rank u v stops edges l hu hv =
       walked = λ G j. record { front = []; rear = []; there = stay refl; onward = stay refl; front_stops = refl; front_edges = refl; rear_stops = s; rear_edges = e };
     }
 
-module _ {toward by rank : List ℕ} {u v : ℕ} {stops edges : List ℕ} {a b up top : ℕ} (c : Climbing toward by rank u v stops edges a b up top) where
+module _ {r : Rooting} {u v : ℕ} {stops edges : List ℕ} {a b up top : ℕ} (c : Climbing r u v stops edges a b up top) where
   -- the numbers that stand in the arrays
   climbing_counts : (length (take up stops) ≡ up) × (length (take up edges) ≡ up) × (length (drop top stops) ≡ 511 - top) × (length (drop top edges) ≡ 511 - top)
   climbing_counts = (
@@ -234,56 +213,56 @@ module _ {toward by rank : List ℕ} {u v : ℕ} {stops edges : List ℕ} {a b u
 
   -- there is room for every stop
   pub climbing_room : up < top
-  climbing_room = omega (arith, apart_fewer rank (take up stops) (drop top stops) c.apart, climbing_counts, c.short)
+  climbing_room = omega (arith, apart_fewer r.rank (take up stops) (drop top stops) c.apart, climbing_counts, c.short)
 
   -- the two stand on joined vertices
-  climbing_joined : (G : Graph) → Joining toward by rank u v G → T (joined G a b)
+  climbing_joined : (G : Graph) → Joining r u v G → T (joined G a b)
   climbing_joined G j =
       let w = c.walked G j in
       joined_trans G a u b (joined_sym G u a (walk_joined w.there)) (joined_trans G u v b j.join (joined_sym G b v (walk_joined w.onward)))
 
   -- the first can go on where it stands no lower
-  pub climbs_left : (G : Graph) → Joining toward by rank u v G → (a ≡ b → ⊥) → get_or rank b 0 ≤ get_or rank a 0 → Toward G toward by rank a
-  climbs_left G j d h = no_root G toward by rank j.rooted c.apart.a_within c.apart.b_within (climbing_joined G j) d h
+  pub climbs_left : (G : Graph) → Joining r u v G → (a ≡ b → ⊥) → get_or r.rank b 0 ≤ get_or r.rank a 0 → Toward G r a
+  climbs_left G j d h = no_root G r j.rooted c.apart.a_within c.apart.b_within (climbing_joined G j) d h
 
   -- so can the second
-  pub climbs_right : (G : Graph) → Joining toward by rank u v G → (a ≡ b → ⊥) → get_or rank a 0 ≤ get_or rank b 0 → Toward G toward by rank b
-  climbs_right G j d h = no_root G toward by rank j.rooted c.apart.b_within c.apart.a_within (joined_sym G a b (climbing_joined G j)) (λ q. d (sym q)) h
+  pub climbs_right : (G : Graph) → Joining r u v G → (a ≡ b → ⊥) → get_or r.rank a 0 ≤ get_or r.rank b 0 → Toward G r b
+  climbs_right G j d h = no_root G r j.rooted c.apart.b_within c.apart.a_within (joined_sym G a b (climbing_joined G j)) (λ q. d (sym q)) h
 
   -- the first goes on
-  pub climbing_left : (H : Graph) → Joining toward by rank u v H → (a ≡ b → ⊥) → get_or rank b 0 ≤ get_or rank a 0 → Climbing toward by rank u v (set stops up a) (set edges up (get_or by a 0)) (get_or toward a 0) b (up + 1) top
+  pub climbing_left : (H : Graph) → Joining r u v H → (a ≡ b → ⊥) → get_or r.rank b 0 ≤ get_or r.rank a 0 → Climbing r u v (set stops up a) (set edges up (get_or r.by a 0)) (get_or r.toward a 0) b (up + 1) top
   climbing_left H k d h =
       let t = climbs_left H k d h in
       let room = climbing_room in
       let s : take (up + 1) (set stops up a) ≡ take up stops ++ (a ∷ []) = take_more stops up a (omega (arith, c.long.0, c.short)) in
-      let e : take (up + 1) (set edges up (get_or by a 0)) ≡ take up edges ++ (get_or by a 0 ∷ []) = take_more edges up (get_or by a 0) (omega (arith, c.long.1, c.short)) in
+      let e : take (up + 1) (set edges up (get_or r.by a 0)) ≡ take up edges ++ (get_or r.by a 0 ∷ []) = take_more edges up (get_or r.by a 0) (omega (arith, c.long.1, c.short)) in
       let rs : drop top (set stops up a) ≡ drop top stops = drop-set-lt top stops up a room in
-      let re : drop top (set edges up (get_or by a 0)) ≡ drop top edges = drop-set-lt top edges up (get_or by a 0) room in
+      let re : drop top (set edges up (get_or r.by a 0)) ≡ drop top edges = drop-set-lt top edges up (get_or r.by a 0) room in
       record {
-        long = (length-set stops up a ∙ c.long.0, length-set edges up (get_or by a 0) ∙ c.long.1);
+        long = (length-set stops up a ∙ c.long.0, length-set edges up (get_or r.by a 0) ∙ c.long.1);
         short = (omega (arith, c.short), c.short.1);
-        apart = rw (s, rs) (apart_left rank (take up stops) (drop top stops) (get_or toward a 0) c.apart d t.within h t.lower);
+        apart = rw (s, rs) (apart_left r.rank (take up stops) (drop top stops) (get_or r.toward a 0) c.apart d t.within h t.lower);
         walked = λ G j. rw (s, e, rs, re) (walked_left (c.walked G j) (climbs_left G j d h));
       }
 
   -- the second goes on
-  pub climbing_right : (H : Graph) → Joining toward by rank u v H → (a ≡ b → ⊥) → get_or rank a 0 ≤ get_or rank b 0 → Climbing toward by rank u v (set stops (top - 1) b) (set edges (top - 1) (get_or by b 0)) a (get_or toward b 0) up (top - 1)
+  pub climbing_right : (H : Graph) → Joining r u v H → (a ≡ b → ⊥) → get_or r.rank a 0 ≤ get_or r.rank b 0 → Climbing r u v (set stops (top - 1) b) (set edges (top - 1) (get_or r.by b 0)) a (get_or r.toward b 0) up (top - 1)
   climbing_right H k d h =
       let t = climbs_right H k d h in
       let room = climbing_room in
       let s : take up (set stops (top - 1) b) ≡ take up stops = take-set-le up stops (top - 1) b (omega arith) in
-      let e : take up (set edges (top - 1) (get_or by b 0)) ≡ take up edges = take-set-le up edges (top - 1) (get_or by b 0) (omega arith) in
+      let e : take up (set edges (top - 1) (get_or r.by b 0)) ≡ take up edges = take-set-le up edges (top - 1) (get_or r.by b 0) (omega arith) in
       let rs : drop (top - 1) (set stops (top - 1) b) ≡ b ∷ drop top stops = drop_more stops top b (omega arith) (omega (arith, c.long.0, c.short)) in
-      let re : drop (top - 1) (set edges (top - 1) (get_or by b 0)) ≡ get_or by b 0 ∷ drop top edges = drop_more edges top (get_or by b 0) (omega arith) (omega (arith, c.long.1, c.short)) in
+      let re : drop (top - 1) (set edges (top - 1) (get_or r.by b 0)) ≡ get_or r.by b 0 ∷ drop top edges = drop_more edges top (get_or r.by b 0) (omega arith) (omega (arith, c.long.1, c.short)) in
       record {
-        long = (length-set stops (top - 1) b ∙ c.long.0, length-set edges (top - 1) (get_or by b 0) ∙ c.long.1);
+        long = (length-set stops (top - 1) b ∙ c.long.0, length-set edges (top - 1) (get_or r.by b 0) ∙ c.long.1);
         short = (c.short.0, omega (arith, c.short));
-        apart = rw (s, rs) (apart_right rank (take up stops) (drop top stops) (get_or toward b 0) c.apart d t.within h t.lower);
+        apart = rw (s, rs) (apart_right r.rank (take up stops) (drop top stops) (get_or r.toward b 0) c.apart d t.within h t.lower);
         walked = λ G j. rw (s, e, rs, re) (walked_right (c.walked G j) (climbs_right G j d h));
       }
 
   -- they have met: what both have left, with where they stand, is the path
-  pub climbing_met : a ≡ b → (s e : List ℕ) → take (up + 1 + (511 - top)) s ≡ take (up + 1) (set stops up a) ++ drop top (set stops up a) → take (up + (511 - top)) e ≡ take up edges ++ drop top edges → (G : Graph) → Joining toward by rank u v G → TrailOf G u v (trail s e (up + (511 - top)))
+  pub climbing_met : a ≡ b → (s e : List ℕ) → take (up + 1 + (511 - top)) s ≡ take (up + 1) (set stops up a) ++ drop top (set stops up a) → take (up + (511 - top)) e ≡ take up edges ++ drop top edges → (G : Graph) → Joining r u v G → TrailOf G u v (record { stops = s; edges = e; hops = up + (511 - top) })
   climbing_met q s e hs he G j =
       let F = take up stops in
       let R = drop top stops in

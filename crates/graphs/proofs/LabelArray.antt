@@ -2,14 +2,14 @@
 use mathlib.Core.Bool.{cond}
 use mathlib.Core.List.{List, [], ◌∷◌, map, map-map}
 use mathlib.Core.Path.{◌≡◌, sym, ◌∙◌}
-use Prim.Native.Nat.{ℕ, ◌≤◌, ◌<◌}
+use Prim.Native.Nat.{ℕ, ◌<◌}
 use native.Mathlib.Omega.{arith}
 use lib.Dec.{eqb}
 use lib.ListN.{length, get_or}
+use lib.Seq.{ext_get_or}
 use Rattle.tables.specs.Words.{below}
 use Rattle.tables.proofs.Terms.{map_agree}
-use Rattle.tables.proofs.Filled.{length_map_below, map_below_at, filled_full}
-use Rattle.tables.proofs.Records.{Filling, filling_all}
+use Rattle.tables.proofs.Filled.{length_map_below, map_below_at}
 use Rattle.closure.specs.Graph.{Graph, label}
 use Rattle.closure.specs.declared.Edge.{Edge}
 use Rattle.closure.proofs.Walking.Joined.{label_nothing, label_edge}
@@ -32,7 +32,6 @@ pub labels_edge : (e : Edge) (G : Graph) → map (λ x. cond (eqb x (label G e.r
 unfolding labels_of
 labels_edge e G = map-map _ _ (below 511) ∙ map_agree _ _ (below 511) (λ v m. sym (label_edge e G v))
 
--- without edges
-pub own_labels : (i : ℕ) (xs : List ℕ) → Filling 511 0 (λ k. k) 511 i xs → 511 ≤ i → xs ≡ labels_of []
-unfolding labels_of
-own_labels i xs w h = filling_all 511 0 (λ k. k) 511 511 i xs (omega arith) w h ∙ filled_full 511 0 (λ k. k) ∙ map_agree (λ k. k) (label []) (below 511) (λ v m. sym (label_nothing v))
+-- without edges each term has its own
+pub own_labels : (xs : List ℕ) → length xs ≡ 511 → ((i : ℕ) → i < 511 → get_or xs i 0 ≡ i) → xs ≡ labels_of []
+own_labels xs l f = ext_get_or 0 xs (labels_of []) (l ∙ sym (labels_length [])) (λ i h. let b : i < 511 = omega arith in f i b ∙ sym (label_at [] i 0 b ∙ label_nothing i))

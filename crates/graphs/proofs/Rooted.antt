@@ -1,4 +1,5 @@
 -- Vertices are reached one by one, each by an edge from one that was; when no edge leads on, all are.
+use mathlib.Core.Bool.{Bool, true, false}
 use mathlib.Core.List.{List, [], ◌∷◌}
 use mathlib.Core.Logic.{◌⊎◌, inl, inr, ⊎_elim}
 use mathlib.Core.Path.{◌≡◌, refl, sym, ap, subst, ◌∙◌}
@@ -9,6 +10,7 @@ use native.Mathlib.Omega.{arith}
 use lib.Dec.{T, eqb}
 use lib.ListN.{length, get_or, set, replicate, length-set, length-replicate}
 use lib.Seq.{get_or-set_same, get_or-set_other}
+use Rattle.std.proofs.lemmas.Bool.{true≢false}
 use borrow.Author.Tests.{eqb-true, eqb-false}
 use Rattle.tables.proofs.Words.{by_test}
 use Rattle.closure.specs.Graph.{Graph, Hop, Path, label}
@@ -37,12 +39,6 @@ positives_length [] = omega arith
 positives_length (zero ∷ xs) = omega (arith, positives_length xs)
 positives_length (suc x ∷ xs) = omega (arith, positives_length xs)
 
--- none at the start
-pub positives_none : (n : ℕ) → positives (replicate n 0) ≡ 0
-unfolding positives
-positives_none zero = refl
-positives_none (suc n) = positives_none n
-
 -- one more after a store where 0 stood
 pub positives_set : (xs : List ℕ) (v k : ℕ) → v < length xs → get_or xs v 0 ≡ 0 → positives (set xs v (k + 1)) ≡ positives xs + 1
 unfolding positives
@@ -52,18 +48,24 @@ positives_set (suc x ∷ xs) zero k h z = absurd (let e : suc x ≡ 0 = z in ome
 positives_set (zero ∷ xs) (suc v) k h z = positives_set xs v k (omega arith) z
 positives_set (suc x ∷ xs) (suc v) k h z = omega (arith, positives_set xs v k (omega arith) z)
 
+-- one of them is enough to count
+pub positives_some : (xs : List ℕ) (v : ℕ) → 0 < get_or xs v 0 → 0 < positives xs
+unfolding positives
+positives_some [] v h = absurd (not-suc-le-zero h)
+positives_some (zero ∷ xs) zero h = absurd (not-suc-le-zero h)
+positives_some (suc x ∷ xs) zero h = omega arith
+positives_some (zero ∷ xs) (suc v) h = positives_some xs v h
+positives_some (suc x ∷ xs) (suc v) h = omega arith
+
 -- there are 511 of them
-pub reached_within : {G : Graph} {r : Rooting} → Growing G r → r.reached ≤ 511
-reached_within {r = r} g = omega (arith, g.counted, g.long.2, positives_length r.rank)
+pub rank_within : {G : Graph} {r : Rooting} → Growing G r → {v : ℕ} → v < 511 → get_or r.rank v 0 ≤ 511
+rank_within {r = r} g {v} h = omega (arith, g.long, g.bounded v h, positives_length r.rank)
 
 -- ---- the roots
 
 -- what holds when the roots among the first v numbers are marked, and nothing else is
-pub record Marking (labels rank : List ℕ) (reached v : ℕ) : Type 0 where
-  pub within : v ≤ 511
+pub record Marking (labels rank : List ℕ) (v : ℕ) : Type 0 where
   pub long : length rank ≡ 511
-  pub counted : reached ≡ positives rank
-  pub bounded : (w : ℕ) → get_or rank w 0 ≤ reached
   pub marked : (w : ℕ) → w < v → get_or labels w 0 ≡ w → get_or rank w 0 ≡ 1
   pub only : (w : ℕ) → 0 < get_or rank w 0 → (w < v) × (get_or labels w 0 ≡ w) × (get_or rank w 0 ≡ 1)
 
@@ -74,74 +76,26 @@ zeros_at (suc n) zero = refl
 zeros_at (suc n) (suc w) = zeros_at n w
 
 -- at the start nothing is marked
-pub marking_none : (labels : List ℕ) → Marking labels (replicate 511 0) 0 0
-marking_none labels =
-    record {
-      within = omega arith;
-      long = length-replicate {A = ℕ} 511 0;
-      counted = sym (positives_none 511);
-      bounded = λ w. omega (arith, zeros_at 511 w);
-      marked = λ w h. absurd (not-suc-le-zero h);
-      only = λ w h. absurd (omega (arith, zeros_at 511 w));
-    }
-
-module _ {labels rank : List ℕ} {reached v : ℕ} (m : Marking labels rank reached v) (h : v < 511) where
-  -- the next number is not marked yet
-  free_here : get_or rank v 0 ≡ 0
-  free_here = ⊎_elim (λ z. z) (λ k. absurd (omega (arith, (m.only v k).0))) (eq-zero-or-pos (get_or rank v 0))
-
-  -- it is a root, and is marked
-  pub marking_root : get_or labels v 0 ≡ v → Marking labels (set rank v 1) (reached + 1) (v + 1)
-  marking_root q =
-      let here : get_or (set rank v 1) v 0 ≡ 1 = get_or-set_same rank v 1 0 (omega (arith, m.long)) in
-      let there : (w : ℕ) → (w ≡ v → ⊥) → get_or (set rank v 1) w 0 ≡ get_or rank w 0 = λ w d. get_or-set_other rank v w 1 0 d in
-      let at : (w : ℕ) → w ≡ v → get_or (set rank v 1) w 0 ≡ 1 = λ w e. ap (λ (x : ℕ). get_or (set rank v 1) x 0) e ∙ here in
-      record {
-        within = omega arith;
-        long = length-set rank v 1 ∙ m.long;
-        counted = omega (arith, m.counted, positives_set rank v 0 (omega (arith, m.long)) free_here);
-        bounded = λ w. ⊎_elim (λ e. omega (arith, at w e)) (λ d. omega (arith, there w d, m.bounded w)) (same_or_not w v);
-        marked = λ w b k. ⊎_elim (λ e. at w e) (λ d. there w d ∙ m.marked w (omega arith) k) (same_or_not w v);
-        only = λ w k.
-            ⊎_elim (λ e. (omega arith, ap (λ (x : ℕ). get_or labels x 0) e ∙ q ∙ sym e, at w e))
-            (λ d. let o = m.only w (omega (arith, there w d)) in (omega (arith, o.0), o.1, there w d ∙ o.2))
-            (same_or_not w v);
-      }
-
-  -- it is none
-  pub marking_other : (get_or labels v 0 ≡ v → ⊥) → Marking labels rank reached (v + 1)
-  marking_other n =
-      record {
-        within = omega arith;
-        long = m.long;
-        counted = m.counted;
-        bounded = m.bounded;
-        marked = λ w b k. ⊎_elim (λ e. absurd (n (ap (λ (x : ℕ). get_or labels x 0) (sym e) ∙ k ∙ e))) (λ d. m.marked w (omega arith) k) (same_or_not w v);
-        only = λ w k. let o = m.only w k in (omega (arith, o.0), o.1, o.2);
-      }
-
--- the same, of lists and counts that are the same
-pub marking_same : {labels rank rank' : List ℕ} {reached reached' v : ℕ} → rank' ≡ rank → reached' ≡ reached → Marking labels rank reached v → Marking labels rank' reached' v
-marking_same {labels} {rank} {rank'} {reached} {reached'} {v} p q m = subst (λ (l : List ℕ). Marking labels l reached' v) (sym p) (subst (λ (n : ℕ). Marking labels rank n v) (sym q) m)
+pub marking_none : (labels : List ℕ) → Marking labels (replicate 511 0) 0
+marking_none labels = record { long = length-replicate {A = ℕ} 511 0; marked = λ w h. absurd (not-suc-le-zero h); only = λ w h. absurd (omega (arith, zeros_at 511 w)) }
 
 -- the roots of a graph alone are reached
-pub marking_growing : (G : Graph) {labels rank : List ℕ} {reached v : ℕ} → labels ≡ labels_of G → Marking labels rank reached v → 511 ≤ v → Growing G (record { toward = replicate 511 0; by = replicate 511 0; rank = rank; reached = reached })
-marking_growing G {labels} {rank} {reached} {v} q m h =
-    let here : (w : ℕ) → w < 511 → get_or labels w 0 ≡ label G w = λ w b. ap (λ (l : List ℕ). get_or l w 0) q ∙ label_at G w 0 b in
+pub marking_growing : (G : Graph) (r : Rooting) {labels : List ℕ} → labels ≡ labels_of G → Marking labels r.rank 511 → Growing G r
+marking_growing G r {labels} q m =
+    let here : (v : ℕ) → v < 511 → get_or labels v 0 ≡ label G v = λ v b. ap (λ (l : List ℕ). get_or l v 0) q ∙ label_at G v 0 b in
     record {
-      long = (length-replicate {A = ℕ} 511 0, length-replicate {A = ℕ} 511 0, m.long);
-      counted = m.counted;
-      bounded = λ w b. m.bounded w;
-      roots = λ w b e. omega (arith, m.marked w (omega arith) (here w b ∙ e));
-      leads = λ w b k. let o = m.only w k in inl (sym (here w b) ∙ o.1, o.2);
+      long = m.long;
+      bounded = λ v b. ⊎_elim (λ z. omega (arith, z)) (λ k. omega (arith, (m.only v k).2, positives_some r.rank v k)) (eq-zero-or-pos (get_or r.rank v 0));
+      roots = λ v b e. omega (arith, m.marked v b (here v b ∙ e));
+      leads = λ v b k. let o = m.only v k in inl (sym (here v b) ∙ o.1, o.2);
     }
 
 -- ---- one vertex more
 
 -- an edge toward the root stays, where its three numbers and the rank of where it leads do
-toward_kept : {G : Graph} {t b k : List ℕ} (t' b' k' : List ℕ) {w : ℕ} → get_or t' w 0 ≡ get_or t w 0 → get_or b' w 0 ≡ get_or b w 0 → get_or k' w 0 ≡ get_or k w 0 → get_or k' (get_or t w 0) 0 ≡ get_or k (get_or t w 0) 0 → Toward G t b k w → Toward G t' b' k' w
-toward_kept {t = t} {k = k} t' b' k' {w} p q r s T =
-    let s' : get_or k' (get_or t' w 0) 0 ≡ get_or k (get_or t w 0) 0 = ap (λ (x : ℕ). get_or k' x 0) p ∙ s in
+toward_kept : {G : Graph} {r : Rooting} (r' : Rooting) {w : ℕ} → get_or r'.toward w 0 ≡ get_or r.toward w 0 → get_or r'.by w 0 ≡ get_or r.by w 0 → get_or r'.rank w 0 ≡ get_or r.rank w 0 → get_or r'.rank (get_or r.toward w 0) 0 ≡ get_or r.rank (get_or r.toward w 0) 0 → Toward G r w → Toward G r' w
+toward_kept {r = r} r' {w} p q k s T =
+    let s' : get_or r'.rank (get_or r'.toward w 0) 0 ≡ get_or r.rank (get_or r.toward w 0) 0 = ap (λ (x : ℕ). get_or r'.rank x 0) p ∙ s in
     record {
       within = subst (λ (x : ℕ). x < 511) (sym p) T.within;
       lower = omega (arith, T.lower);
@@ -153,24 +107,27 @@ toward_kept {t = t} {k = k} t' b' k' {w} p q r s T =
       way_number = T.way_number ∙ sym q;
     }
 
-module _ {G : Graph} {r : Rooting} (g : Growing G r) (v from : ℕ) (h : Hop) (m : HopOf h G) (hf : h.from ≡ v) (ht : h.to ≡ from) (bv : v < 511) (bf : from < 511) (free : get_or r.rank v 0 ≡ 0) (stood : 0 < get_or r.rank from 0) where
+module _ {G : Graph} {r : Rooting} (long : (length r.toward ≡ 511) × (length r.by ≡ 511)) (g : Growing G r) (v from : ℕ) (h : Hop) (m : HopOf h G) (hf : h.from ≡ v) (ht : h.to ≡ from) (bv : v < 511) (bf : from < 511) (free : get_or r.rank v 0 ≡ 0) (stood : 0 < get_or r.rank from 0) where
+  abbrev r' : Rooting
+  r' = grown r v from (number h)
+
   -- every other vertex keeps its rank
-  rank_other : (w : ℕ) → (w ≡ v → ⊥) → get_or (grown r v from (number h)).rank w 0 ≡ get_or r.rank w 0
+  rank_other : (w : ℕ) → (w ≡ v → ⊥) → get_or r'.rank w 0 ≡ get_or r.rank w 0
   rank_other w d = get_or-set_other r.rank v w (get_or r.rank from 0 + 1) 0 d
 
   -- the vertex that is reached has one more than its neighbour
-  rank_here : get_or (grown r v from (number h)).rank v 0 ≡ get_or r.rank from 0 + 1
-  rank_here = get_or-set_same r.rank v (get_or r.rank from 0 + 1) 0 (omega (arith, g.long.2))
+  rank_here : get_or r'.rank v 0 ≡ get_or r.rank from 0 + 1
+  rank_here = get_or-set_same r.rank v (get_or r.rank from 0 + 1) 0 (omega (arith, g.long))
 
   -- what was reached is another vertex
   reached_other : (w : ℕ) → 0 < get_or r.rank w 0 → w ≡ v → ⊥
   reached_other w k q = let z : get_or r.rank w 0 ≡ 0 = ap (λ (x : ℕ). get_or r.rank x 0) q ∙ free in omega arith
 
   -- it has its edge
-  leads_here : Toward G (grown r v from (number h)).toward (grown r v from (number h)).by (grown r v from (number h)).rank v
+  leads_here : Toward G r' v
   leads_here =
-      let t : get_or (set r.toward v from) v 0 ≡ from = get_or-set_same r.toward v from 0 (omega (arith, g.long.0)) in
-      let k : get_or (grown r v from (number h)).rank (get_or (set r.toward v from) v 0) 0 ≡ get_or r.rank from 0 = ap (λ (x : ℕ). get_or (grown r v from (number h)).rank x 0) t ∙ rank_other from (reached_other from stood) in
+      let t : get_or (set r.toward v from) v 0 ≡ from = get_or-set_same r.toward v from 0 (omega (arith, long.0)) in
+      let k : get_or r'.rank (get_or (set r.toward v from) v 0) 0 ≡ get_or r.rank from 0 = ap (λ (x : ℕ). get_or r'.rank x 0) t ∙ rank_other from (reached_other from stood) in
       record {
         within = omega arith;
         lower = omega (arith, rank_here);
@@ -179,30 +136,34 @@ module _ {G : Graph} {r : Rooting} (g : Growing G r) (v from : ℕ) (h : Hop) (m
         way_of = m;
         way_from = hf;
         way_to = ht ∙ sym t;
-        way_number = sym (get_or-set_same r.by v (number h) 0 (omega (arith, g.long.1)));
+        way_number = sym (get_or-set_same r.by v (number h) 0 (omega (arith, long.1)));
       }
 
   -- the others keep theirs
-  leads_other : (w : ℕ) → (w ≡ v → ⊥) → Leads G r.toward r.by r.rank w → Leads G (grown r v from (number h)).toward (grown r v from (number h)).by (grown r v from (number h)).rank w
+  leads_other : (w : ℕ) → (w ≡ v → ⊥) → Leads G r w → Leads G r' w
   leads_other w d (inl p) = inl (p.0, rank_other w d ∙ p.1)
   leads_other w d (inr T) =
       inr
-      (toward_kept (grown r v from (number h)).toward (grown r v from (number h)).by (grown r v from (number h)).rank (get_or-set_other r.toward v w from 0 d)
+      (toward_kept r' (get_or-set_other r.toward v w from 0 d)
       (get_or-set_other r.by v w (number h) 0 d)
       (rank_other w d)
       (rank_other (get_or r.toward w 0) (reached_other (get_or r.toward w 0) T.reached))
       T)
 
+  -- one more is reached
+  pub positives_more : positives r'.rank ≡ positives r.rank + 1
+  positives_more = positives_set r.rank v (get_or r.rank from 0) (omega (arith, g.long)) free
+
   -- all that holds while vertices are reached holds again
-  pub growing_more : Growing G (grown r v from (number h))
+  pub growing_more : Growing G r'
   growing_more =
+      let more = positives_more in
       record {
-        long = (length-set r.toward v from ∙ g.long.0, length-set r.by v (number h) ∙ g.long.1, length-set r.rank v (get_or r.rank from 0 + 1) ∙ g.long.2);
-        counted = omega (arith, g.counted, positives_set r.rank v (get_or r.rank from 0) (omega (arith, g.long.2)) free);
-        bounded = λ w b. ⊎_elim (λ q. let e : get_or (grown r v from (number h)).rank w 0 ≡ get_or r.rank from 0 + 1 = ap (λ (x : ℕ). get_or (grown r v from (number h)).rank x 0) q ∙ rank_here in omega (arith, g.bounded from bf)) (λ d. omega (arith, rank_other w d, g.bounded w b)) (same_or_not w v);
+        long = length-set r.rank v (get_or r.rank from 0 + 1) ∙ g.long;
+        bounded = λ w b. ⊎_elim (λ q. let e : get_or r'.rank w 0 ≡ get_or r.rank from 0 + 1 = ap (λ (x : ℕ). get_or r'.rank x 0) q ∙ rank_here in omega (arith, more, g.bounded from bf)) (λ d. omega (arith, more, rank_other w d, g.bounded w b)) (same_or_not w v);
         roots = λ w b q. ⊎_elim (λ e. let z : get_or r.rank w 0 ≡ 0 = ap (λ (x : ℕ). get_or r.rank x 0) e ∙ free in absurd (omega (arith, g.roots w b q))) (λ d. omega (arith, rank_other w d, g.roots w b q)) (same_or_not w v);
         leads = λ w b k.
-            ⊎_elim (λ q. subst (Leads G (grown r v from (number h)).toward (grown r v from (number h)).by (grown r v from (number h)).rank) (sym q) (inr leads_here))
+            ⊎_elim (λ q. subst (Leads G r') (sym q) (inr leads_here))
             (λ d. leads_other w d (g.leads w b (omega (arith, rank_other w d))))
             (same_or_not w v);
       }
@@ -224,38 +185,45 @@ closed_more es i rank c f b h k = go (subst (λ (n : ℕ). HopOf h (newest_first
     go (backward q) = subst (λ (g : Hop). 0 < get_or rank g.from 0 → 0 < get_or rank g.to 0) (sym q) b
     go (earlier m) = c h m
 
--- what holds in a pass when the first i edges have been looked at
-pub record Passing (G : Graph) (es : List Edge) (start : ℕ) (r : Rooting) (i : ℕ) : Type 0 where
-  pub growing : Growing G r
-  pub more : start ≤ r.reached
-  pub closed : r.reached ≡ start → Closed (newest_first i es) r.rank
+-- what holds in a pass when the first i edges have been looked at: start is how many were reached before
+pub record Passing (es : List Edge) (n start : ℕ) (r : Rooting) (more : Bool) (i : ℕ) : Type 0 where
+  pub growing : Growing (newest_first n es) r
+  pub least : start ≤ positives r.rank
+  pub grew : more ≡ true → start < positives r.rank
+  pub closed : more ≡ false → Closed (newest_first i es) r.rank
+
+-- the ends of an edge are vertices
+pub ends_here : (es : List Edge) {n i : ℕ} → i < n → EndsBelow 511 (newest_first n es) → ((get_or es i no_edge).left < 511) × ((get_or es i no_edge).right < 511)
+ends_here es {n} {i} h ends = each_by (λ G e. (e.left < 511) × (e.right < 511)) es i n h ends
 
 -- the next edge: where just one end is reached, the other is reached from it
-module _ (es : List Edge) (n : ℕ) {start : ℕ} {r : Rooting} {i : ℕ} (p : Passing (newest_first n es) es start r i) (h : i < n) (ends : EndsBelow 511 (newest_first n es)) where
-  -- its ends are vertices
-  pub ends_here : ((get_or es i no_edge).left < 511) × ((get_or es i no_edge).right < 511)
-  ends_here = each_by (λ G e. (e.left < 511) × (e.right < 511)) es i n h ends
-
+module _ {es : List Edge} {n start : ℕ} {r : Rooting} {more : Bool} {i : ℕ} (long : (length r.toward ≡ 511) × (length r.by ≡ 511)) (p : Passing es n start r more i) (h : i < n) (ends : EndsBelow 511 (newest_first n es)) where
   -- by a hop over it
-  reach_by : (g : Hop) → HopOf g (newest_first n es) → number g ≡ i → g.from < 511 → g.to < 511 → get_or r.rank g.from 0 ≡ 0 → 0 < get_or r.rank g.to 0 → Passing (newest_first n es) es start (grown r g.from g.to i) (i + 1)
+  reach_by : (g : Hop) → HopOf g (newest_first n es) → number g ≡ i → g.from < 511 → g.to < 511 → get_or r.rank g.from 0 ≡ 0 → 0 < get_or r.rank g.to 0 → Passing es n start (grown r g.from g.to i) true (i + 1)
   reach_by g m q bf bt z k =
-      record {
-        growing = subst (λ (x : ℕ). Growing (newest_first n es) (grown r g.from g.to x)) q (growing_more p.growing g.from g.to g m refl refl bf bt z k);
-        more = omega (arith, p.more);
-        closed = λ e. absurd (omega (arith, p.more));
-      }
+      subst (λ (x : ℕ). Passing es n start (grown r g.from g.to x) true (i + 1)) q
+      (record {
+        growing = growing_more long p.growing g.from g.to g m refl refl bf bt z k;
+        least = omega (arith, p.least, positives_more long p.growing g.from g.to g m refl refl bf bt z k);
+        grew = λ e. omega (arith, p.least, positives_more long p.growing g.from g.to g m refl refl bf bt z k);
+        closed = λ e. absurd (true≢false e);
+      })
 
   -- its left end is reached
-  pub reach_left : get_or r.rank (get_or es i no_edge).left 0 ≡ 0 → (get_or r.rank (get_or es i no_edge).right 0 ≡ 0 → ⊥) → Passing (newest_first n es) es start (grown r (get_or es i no_edge).left (get_or es i no_edge).right i) (i + 1)
-  reach_left z k = reach_by (forth_by es i) (hops_by es i n h).0 (last_first_length no_edge i es) ends_here.0 ends_here.1 z (omega arith)
+  pub reach_left : get_or r.rank (get_or es i no_edge).left 0 ≡ 0 → (get_or r.rank (get_or es i no_edge).right 0 ≡ 0 → ⊥) → Passing es n start (grown r (get_or es i no_edge).left (get_or es i no_edge).right i) true (i + 1)
+  reach_left z k = reach_by (forth_by es i) (hops_by es i n h).0 (last_first_length no_edge i es) (ends_here es h ends).0 (ends_here es h ends).1 z (omega arith)
 
   -- its right end is reached
-  pub reach_right : (get_or r.rank (get_or es i no_edge).left 0 ≡ 0 → ⊥) → get_or r.rank (get_or es i no_edge).right 0 ≡ 0 → Passing (newest_first n es) es start (grown r (get_or es i no_edge).right (get_or es i no_edge).left i) (i + 1)
-  reach_right k z = reach_by (back_by es i) (hops_by es i n h).1 (last_first_length no_edge i es) ends_here.1 ends_here.0 z (omega arith)
+  pub reach_right : (get_or r.rank (get_or es i no_edge).left 0 ≡ 0 → ⊥) → get_or r.rank (get_or es i no_edge).right 0 ≡ 0 → Passing es n start (grown r (get_or es i no_edge).right (get_or es i no_edge).left i) true (i + 1)
+  reach_right k z = reach_by (back_by es i) (hops_by es i n h).1 (last_first_length no_edge i es) (ends_here es h ends).1 (ends_here es h ends).0 z (omega arith)
 
   -- where both are reached or neither, nothing changes
-  pub reach_none : (0 < get_or r.rank (get_or es i no_edge).left 0 → 0 < get_or r.rank (get_or es i no_edge).right 0) → (0 < get_or r.rank (get_or es i no_edge).right 0 → 0 < get_or r.rank (get_or es i no_edge).left 0) → Passing (newest_first n es) es start r (i + 1)
-  reach_none f b = record { growing = p.growing; more = p.more; closed = λ e. closed_more es i r.rank (p.closed e) f b }
+  pub reach_none : (0 < get_or r.rank (get_or es i no_edge).left 0 → 0 < get_or r.rank (get_or es i no_edge).right 0) → (0 < get_or r.rank (get_or es i no_edge).right 0 → 0 < get_or r.rank (get_or es i no_edge).left 0) → Passing es n start r more (i + 1)
+  reach_none f b = record { growing = p.growing; least = p.least; grew = p.grew; closed = λ e. closed_more es i r.rank (p.closed e) f b }
+
+-- the same of what is the same
+pub passing_same : {es : List Edge} {n start : ℕ} {r r' : Rooting} {more more' : Bool} {i : ℕ} → r' ≡ r → more' ≡ more → Passing es n start r more i → Passing es n start r' more' i
+passing_same {es} {n} {start} {r} {r'} {more} {more'} {i} p q w = subst (λ (x : Rooting). Passing es n start x more' i) (sym p) (subst (λ (b : Bool). Passing es n start r b i) (sym q) w)
 
 -- where no edge leads on, all of a walk from a vertex that is reached is
 walk_reached : {G : Graph} (rank : List ℕ) → Closed G rank → {u v : ℕ} {π : Path} → Walk G u v π → 0 < get_or rank u 0 → 0 < get_or rank v 0
@@ -263,7 +231,7 @@ walk_reached rank c (stay q) h = subst (λ (x : ℕ). 0 < get_or rank x 0) q h
 walk_reached rank c (hop {h = g} k q w) h = walk_reached rank c w (c g k (subst (λ (x : ℕ). 0 < get_or rank x 0) q h))
 
 -- so every vertex is reached, from its label
-pub all_rooted : (G : Graph) (r : Rooting) → EndsBelow 511 G → Growing G r → Closed G r.rank → RootedBy G r.toward r.by r.rank
+pub all_rooted : (G : Graph) (r : Rooting) → EndsBelow 511 G → Growing G r → Closed G r.rank → RootedBy G r
 all_rooted G r ends g c v h =
     let l = label G v in
     let w = path_walk G l v (label_joined G l v (label_label G v)) in

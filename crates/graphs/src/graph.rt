@@ -6,6 +6,8 @@ ghost use Rattle.graphs.specs.Layout.{no_edge, edges_of};
 use closure::{Edge, EdgeKind};
 use tables::Side;
 
+// An array of one size with a count beside it, and no vector: memory is fixed, the graph goes by value as document 01 names the form, and `with_edge`
+// promises the array too.
 #[derive(Clone, Copy)]
 pub struct Graph {
     pub edges: [Edge; 510],
@@ -29,7 +31,7 @@ impl Graph {
         }
     }
 
-    // The graph, handed back with one edge more.
+    // "gets a derived edge to it": the graph, taken by value and handed back with one edge more.
     pub fn with_edge(mut self, e: Edge) -> Graph
         requires { self.count < 510 }
         ensures { (edges_of result ≡ e ∷ edges_of self) × (result.count ≡ self.count + 1) × (result.edges ≡ set self.edges self.count e) }

@@ -1,106 +1,81 @@
 // The forest rooted: each vertex but the roots has the edge toward its root. The root of a class is the term that its label names.
 
-ghost use Rattle.std.specs.Prelude.{◌≡◌, ◌≤◌, ◌<◌};
+ghost use Rattle.std.specs.Prelude.{true, false, ◌≡◌, ◌≤◌, ◌<◌, get_or};
 ghost use Rattle.closure.specs.Graph.{Graph as Edges};
 ghost use Rattle.closure.specs.Forests.{EndsBelow};
 ghost use Rattle.graphs.specs.Layout.{edges_of, labels_of};
-ghost use Rattle.graphs.specs.Rooting.{RootedBy, rooting, Growing, Closed};
+ghost use Rattle.graphs.specs.Rooting.{RootedBy, positives, grown, Growing, Closed};
 
 use super::graph::Graph;
 
 // rank is 0 where a vertex is not reached yet, 1 at a root, and one more than the neighbour's toward the root.
+// Three arrays and not one of three parts: `RootedBy` says of each what it holds, and a step up reads one part alone.
 #[derive(Clone, Copy)]
 pub struct Rooting {
     pub toward: [u16; 511],
     pub by: [u16; 511],
     pub rank: [u16; 511],
-    pub reached: usize,
 }
 
 // The roots alone: the terms that are their own labels.
 fn roots(labels: &[u16; 511]) -> Rooting
     ensures { (G : Edges) → labels.now ≡ labels_of G → Growing G result }
 {
-    let mut rank = [0u16; 511];
-    let mut reached = 0;
-    let mut v = 0u16;
-    while v < 511 {
+    let mut rank = [0; 511];
+    for v in 0..511u16 {
         if labels[v as usize] == v {
             rank[v as usize] = 1;
-            reached += 1;
         }
-        v += 1;
     }
     Rooting {
-        toward: [0u16; 511],
-        by: [0u16; 511],
+        toward: [0; 511],
+        by: [0; 511],
         rank,
-        reached,
     }
 }
 
-// One pass over the edges: where one end is reached and the other is not, the other is reached by this edge. The arrays are written in place, for a
-// copy of them would be most of the time; how many vertices are reached comes back.
-fn pass(
-    graph: Graph,
-    toward: &mut [u16; 511],
-    by: &mut [u16; 511],
-    rank: &mut [u16; 511],
-    start: usize,
-) -> usize
-    requires { (graph.count ≤ 510) × EndsBelow 511 (edges_of graph) × Growing (edges_of graph) (rooting toward.old by.old rank.old start) }
-    ensures { Growing (edges_of graph) (rooting toward.new by.new rank.new result) × (start ≤ result) × (result ≡ start → Closed (edges_of graph) rank.new) }
-{
-    let count = graph.count;
-    let mut reached = start;
-    let mut i = 0;
-    while i < count {
-        let e = graph.edges[i];
-        let left = e.left;
-        let right = e.right;
-        let l = rank[left as usize];
-        let k = rank[right as usize];
-        let edge = i as u16;
-        i += 1;
-        if l == 0 {
-            if k != 0 {
-                toward[left as usize] = right;
-                by[left as usize] = edge;
-                rank[left as usize] = k + 1;
-                reached += 1;
-            }
-        } else {
-            if k == 0 {
-                toward[right as usize] = left;
-                by[right as usize] = edge;
-                rank[right as usize] = l + 1;
-                reached += 1;
+impl Rooting {
+    // The vertex v is reached by an edge from a neighbour.
+    fn reach(&mut self, v: u16, from: u16, edge: u16)
+        requires { (v < 511) × (from < 511) × (get_or self.old.rank from 0 ≤ 511) }
+        ensures { self.new ≡ grown self.old v from edge }
+    {
+        self.toward[v as usize] = from;
+        self.by[v as usize] = edge;
+        self.rank[v as usize] = self.rank[from as usize] + 1;
+    }
+
+    // One pass over the edges: where one end is reached and the other is not, the other is reached by this edge. Says whether there was such an edge.
+    fn pass(&mut self, graph: &Graph) -> bool
+        requires { (graph.now.count ≤ 510) × EndsBelow 511 (edges_of graph.now) × Growing (edges_of graph.now) self.old }
+        ensures { Growing (edges_of graph.now) self.new × (result ≡ true → positives self.old.rank < positives self.new.rank) × (result ≡ false → Closed (edges_of graph.now) self.new.rank) }
+    {
+        let mut more = false;
+        for i in 0..graph.count {
+            let left = graph.edges[i].left;
+            let right = graph.edges[i].right;
+            let l = self.rank[left as usize];
+            let k = self.rank[right as usize];
+            if l == 0 {
+                if k != 0 {
+                    self.reach(left, right, i as u16);
+                    more = true;
+                }
+            } else if k == 0 {
+                self.reach(right, left, i as u16);
+                more = true;
             }
         }
+        more
     }
-    reached
 }
 
 // Passes until one reaches nothing more.
-pub fn rooted(graph: Graph, labels: &[u16; 511]) -> Rooting
-    requires { (graph.count ≤ 510) × EndsBelow 511 (edges_of graph) × (labels.now ≡ labels_of (edges_of graph)) }
-    ensures { RootedBy (edges_of graph) result.toward result.by result.rank }
+pub fn rooted(graph: &Graph, labels: &[u16; 511]) -> Rooting
+    requires { (graph.now.count ≤ 510) × EndsBelow 511 (edges_of graph.now) × (labels.now ≡ labels_of (edges_of graph.now)) }
+    ensures { RootedBy (edges_of graph.now) result }
 {
-    let start = roots(labels);
-    let mut toward = start.toward;
-    let mut by = start.by;
-    let mut rank = start.rank;
-    let mut reached = start.reached;
-    loop {
-        let next = pass(graph, &mut toward, &mut by, &mut rank, reached);
-        if next == reached {
-            return Rooting {
-                toward,
-                by,
-                rank,
-                reached,
-            };
-        }
-        reached = next;
-    }
+    let mut forest = roots(labels);
+    while forest.pass(graph) {}
+    forest
 }

@@ -1,14 +1,7 @@
--- `graphs::labels::own_labels` meets its contract: the places passed hold their own numbers.
-use Rattle.std.proofs.Common.{refl, arith}
-use Rattle.tables.proofs.Records.{filling_none, filling_more}
+-- `graphs::labels::own_labels` meets its contract: each place holds its own number.
+use Rattle.std.proofs.Common.{rules}
 use Rattle.graphs.proofs.LabelArray.{own_labels}
 use Rattle.graphs.proofs.labels.own_labels.Goals as goal
 
-pub loop-v-init : goal.loop-v-init
-loop-v-init c = filling_none 511 0 (λ i. i) 511
-
-pub loop-v-preserved : goal.loop-v-preserved
-loop-v-preserved c = filling_more _ _ _ _ _ _ _ (omega arith) c.loop-v.invariant (omega arith) refl
-
 pub returns : goal.returns
-returns c = own_labels _ _ c.loop-v.invariant c.loop-v-test.false
+returns c = own_labels c.from_fn.result (search rules) (λ i h. let w = c.from_fn.ensures.items.at i 0 h in search (rules, w.2))

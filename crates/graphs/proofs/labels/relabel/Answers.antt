@@ -1,7 +1,13 @@
 -- `graphs::labels::relabel` meets its contract: the places passed are changed.
-use Rattle.std.proofs.Common.{arith}
+use Rattle.std.proofs.Common.{rules, arith}
 use Rattle.graphs.proofs.Changing.{changing_set}
+use Rattle.graphs.proofs.labels.relabel.Goals.{then-label-from, else-label-from}
 use Rattle.graphs.proofs.labels.relabel.Goals as goal
 
-pub loop-place-preserved : goal.loop-place-preserved
-loop-place-preserved c = let inv = c.loop-place.invariant in (inv.0, changing_set _ _ _ _ _ inv.1 (omega arith) c.new_label.ensures)
+pub loop-label-preserved : goal.loop-label-preserved
+loop-label-preserved c =
+    changing_set _ _ _ _ _ c.loop-label.invariant (omega (arith, c.told-labels))
+    (elim c.if-label-from.branch [
+      | then-label-from w ↦ search rules
+      | else-label-from w ↦ search rules
+    ])
