@@ -1,8 +1,12 @@
 -- Rows whose fields have the same labels are joined pair by pair, and have one key.
-use mathlib.Core.Bool.{Bool, true, false, cond}
+use mathlib.Core.Bool.{Bool, true, false}
 use mathlib.Core.List.{List, map}
-use mathlib.Core.Path.{◌≡◌, sym, ap, ◌∙◌}
-use Prim.Native.Nat.{ℕ, ◌+◌, ◌≤◌, ◌<◌}
+use mathlib.Core.Path.{◌≡◌, sym, ap, subst, ◌∙◌}
+use Rattle.std.proofs.Common.{zero-add}
+use Rattle.std.proofs.lemmas.List.FromFn.{length-range_with_len, get_or-range_with_len}
+use Rattle.std.specs.Bool.{MatchBool}
+use Rattle.std.specs.List.{range_with_len, AllWithin, HoldsAt}
+use Prim.Native.Nat.{ℕ, ◌≤◌, ◌<◌}
 use native.Mathlib.Omega.{arith}
 use lib.Dec.{T, not_T}
 use lib.ListN.{length, get_or, take, length-map, length-take, get_or-map}
@@ -20,6 +24,10 @@ use Rattle.graphs.proofs.LabelArray.{label_at}
 pub joined_labels : (G : Graph) (xs ys : List ℕ) → T (joined_pairwise G xs ys) → map (label G) xs ≡ map (label G) ys
 joined_labels G xs ys h = pairwise_agree G (label G) (joined_label G) xs ys h
 
+-- field k of two rows has one label
+abbrev pub SameLabel : List ℕ → List ℕ → List ℕ → ℕ → Type 0
+SameLabel labels xs ys k = field_label labels xs k ≡ field_label labels ys k
+
 module _ (G : Graph) (labels : List ℕ) (e : labels ≡ labels_of G) (arity : ℕ) where
   -- what stands at a place of the labels of the first fields
   field_at : (xs : List ℕ) → FieldsWithin xs → arity ≤ 4 → (k : ℕ) → k < arity → get_or (map (label G) (take arity xs)) k (label G 0) ≡ field_label labels xs k
@@ -32,9 +40,12 @@ module _ (G : Graph) (labels : List ℕ) (e : labels ≡ labels_of G) (arity : �
   length_fields xs f small = length-map (take arity xs) (label G) ∙ length-take arity xs ∙ omega (arith, f.0)
 
   module _ (xs ys : List ℕ) (f : FieldsWithin xs) (g : FieldsWithin ys) (small : arity ≤ 4) where
+    abbrev Same : ℕ → Type 0
+    Same = SameLabel labels xs ys
+
     -- fields that all agree are joined pair by pair
-    pub fields_joined : ((k : ℕ) → k < arity → field_label labels xs k ≡ field_label labels ys k) → true ≡ joined_pairwise G (take arity xs) (take arity ys)
-    fields_joined same =
+    all_same : ((k : ℕ) → k < arity → Same k) → true ≡ joined_pairwise G (take arity xs) (take arity ys)
+    all_same same =
         sym
         (passed (joined_pairwise G (take arity xs) (take arity ys))
         (labels_joined G (take arity xs) (take arity ys)
@@ -43,8 +54,8 @@ module _ (G : Graph) (labels : List ℕ) (e : labels ≡ labels_of G) (arity : �
         (λ k h. let l : k < arity = omega (arith, length_fields xs f small) in field_at xs f small k l ∙ same k l ∙ sym (field_at ys g small k l)))))
 
     -- one that does not agree settles it
-    pub fields_apart : (k : ℕ) → k < arity → (field_label labels xs k ≡ field_label labels ys k → ⊥) → false ≡ joined_pairwise G (take arity xs) (take arity ys)
-    fields_apart k h differ =
+    one_differs : (k : ℕ) → k < arity → ¬ (Same k) → false ≡ joined_pairwise G (take arity xs) (take arity ys)
+    one_differs k h differ =
         sym
         (failed (joined_pairwise G (take arity xs) (take arity ys))
         (not_T (joined_pairwise G (take arity xs) (take arity ys))
@@ -53,12 +64,11 @@ module _ (G : Graph) (labels : List ℕ) (e : labels ≡ labels_of G) (arity : �
         ap (λ (l : List ℕ). get_or l k (label G 0)) (joined_labels G (take arity xs) (take arity ys) t) ∙
         field_at ys g small k h))))
 
--- ---- keys
+    -- in turn, a field is asked at its number
+    asked : (k : ℕ) → k < arity → get_or (range_with_len 0 arity) k 0 ≡ k
+    asked k l = get_or-range_with_len 0 arity k 0 l ∙ zero-add k
 
--- a vertex has its key
-pub key_place : (b : Bool) (x k : ℕ) → b ≡ true → x ≡ k → x + 1 ≡ cond b (k + 1) 0
-key_place b x k e q = ap (λ (n : ℕ). n + 1) q ∙ sym (ap (λ (t : Bool). cond t (k + 1) 0) e)
-
--- other terms have none
-pub no_key : (b : Bool) (k : ℕ) → b ≡ false → 0 ≡ cond b (k + 1) 0
-no_key b k e = sym (ap (λ (t : Bool). cond t (k + 1) 0) e)
+    -- so the code, which asks it of each field in turn, finds it out
+    pub fields_joined : (r : Bool) → MatchBool r (AllWithin Same (range_with_len 0 arity) 0 (length (range_with_len 0 arity))) ((k : ℕ) × (k < length (range_with_len 0 arity)) × HoldsAt (λ j. ¬ (Same j)) (range_with_len 0 arity) k) → r ≡ joined_pairwise G (take arity xs) (take arity ys)
+    fields_joined true h = all_same (λ k l. subst Same (asked k l) (h k 0 (omega arith) (omega (arith, length-range_with_len 0 arity))))
+    fields_joined false (k, l, differ) = let within : k < arity = omega (arith, length-range_with_len 0 arity) in one_differs k within (subst (λ j. ¬ (Same j)) (asked k within) (differ 0))

@@ -10,20 +10,16 @@ use lib.Dec.{eqb}
 use lib.ListN.{length, get_or, take, drop, take-append-drop}
 use lib.Seq.{take-suc, take_all}
 use Rattle.tables.specs.Words.{below}
-use Rattle.tables.specs.Bytes.{byte_at}
-use Rattle.tables.specs.Checks.{checked}
+use Rattle.tables.specs.Checks.{Sound, checked}
 use Rattle.tables.specs.TermTable.{term_count, terms_of}
-use Rattle.tables.specs.LiteralTable.{equal, different, is_equal, Literal, literal_count, literal_record, literal_of, literals_of}
-use Rattle.tables.specs.declared.Side.{Side}
-use Rattle.tables.specs.declared.Side.TheVariants.{A, B}
-use Rattle.tables.specs.declared.Check.TheVariants.{Sound}
+use Rattle.tables.specs.LiteralTable.{is_equal, literal_count, literal_record, literal_of, literals_of}
+use Rattle.tables.specs.declared.Literal.{Literal}
+use Rattle.tables.specs.declared.Kind.TheVariants.{Equal}
+use Rattle.tables.specs.declared.Side.TheVariants.{A}
 use Rattle.tables.proofs.Words.{and_right, passes, length_below, mem_below}
 use Rattle.tables.proofs.Sound.{SoundTables, sound, sound_literal, sides_within, length_terms_of, length_literals_of, literal_at_is}
 use Rattle.closure.proofs.Walking.Joined.{joined_by}
-use Rattle.reading.proofs.Sides.{sides_below}
-use Rattle.reading.specs.Fields.{fields_of}
-use Rattle.reading.specs.declared.literal.Fields.{Fields}
-use Rattle.closure.specs.Graph.{Graph, label, joined}
+use Rattle.closure.specs.Graph.{Graph, joined}
 use Rattle.closure.specs.declared.EdgeKind.TheVariants.{Basic as basic}
 use Rattle.closure.specs.Steps.{State, begin, with_edge}
 use Rattle.closure.specs.OwnRun.{basic_steps}
@@ -85,11 +81,7 @@ mem_take {x} i ls m = subst (Memᴰ x) (take-append-drop i ls) (Memᴰ.append_le
 -- ---- the records of the literal table
 
 abbrev pub no_literal : Literal
-no_literal = record { side = A; kind = equal; left = 0; right = 0 }
-
-kind_test : (b : Bool) → b ≡ is_equal (cond b equal different)
-kind_test true = refl
-kind_test false = refl
+no_literal = record { side = A; kind = Equal; left = 0; right = 0 }
 
 module _ (bs ls : List ℕ) (passed : checked bs ls ≡ Sound) where
   abbrev pub all : List Literal
@@ -106,37 +98,20 @@ module _ (bs ls : List ℕ) (passed : checked bs ls ≡ Sound) where
     abbrev literal : Literal
     literal = get_or all k no_literal
 
-    literal_is : literal_of (literal_record ls k) ≡ literal
-    literal_is = sym (literal_at_is ls k no_literal h)
+    -- as it is read
+    pub literal_is : {l : Literal} → l ≡ literal_of (literal_record ls k) → l ≡ literal
+    literal_is read = read ∙ sym (literal_at_is ls k no_literal h)
 
-    -- the fields of the record are the literal's
-    pub left_is : (fields_of (literal_record ls k)).left ≡ literal.left
+    -- its sides are terms of the table
+    pub sides_in : {l : Literal} → l ≡ literal_of (literal_record ls k) → (l.left < term_count bs) × (l.right < term_count bs)
     unfolding literal_of
-    left_is = ap (λ (l : Literal). l.left) literal_is
-
-    pub right_is : (fields_of (literal_record ls k)).right ≡ literal.right
-    unfolding literal_of
-    right_is = ap (λ (l : Literal). l.right) literal_is
-
-    pub side_is : cond (eqb (fields_of (literal_record ls k)).side 1) A B ≡ literal.side
-    unfolding literal_of
-    side_is = ap (λ (l : Literal). l.side) literal_is
-
-    pub kind_is : eqb (fields_of (literal_record ls k)).kind 1 ≡ is_equal literal.kind
-    unfolding literal_of
-    kind_is = kind_test (eqb (byte_at (literal_record ls k) 1) 1) ∙ ap (λ (l : Literal). is_equal l.kind) literal_is
-
-    -- the sides are terms of the table
-    pub sides_in : ((fields_of (literal_record ls k)).left < term_count bs) × ((fields_of (literal_record ls k)).right < term_count bs)
-    sides_in = ((sound_literal bs ls settled k h).left, (sound_literal bs ls settled k h).right)
+    sides_in read =
+        let low = sound_literal bs ls settled k h in
+        (subst (λ (l : Literal). l.left < term_count bs) (sym read) low.left, subst (λ (l : Literal). l.right < term_count bs) (sym read) low.right)
 
     -- and so fit the label array
-    pub sides_small : ((fields_of (literal_record ls k)).left < 256) × ((fields_of (literal_record ls k)).right < 256)
-    sides_small = (omega (arith, sides_in.0, settled.terms_fit), omega (arith, sides_in.1, settled.terms_fit))
-
-    -- as they were read, too
-    pub sides_read : {l : Fields} → l ≡ fields_of (literal_record ls k) → (l.left < 256) × (l.right < 256)
-    sides_read read = sides_below ls k 256 read sides_small.0 sides_small.1
+    pub sides_small : {l : Literal} → l ≡ literal_of (literal_record ls k) → (l.left < 256) × (l.right < 256)
+    sides_small read = let low = sides_in read in (omega (arith, low.0, settled.terms_fit), omega (arith, low.1, settled.terms_fit))
 
   -- ---- the turns
 
@@ -164,50 +139,33 @@ module _ (bs ls : List ℕ) (passed : checked bs ls ≡ Sound) where
       let w = steps_bounded n (take i all) begin
       (λ l m. let r = sides_within bs ls settled l (mem_take i all m) in
       (omega (arith, r.0, length_terms_of bs), omega (arith, r.1, length_terms_of bs))) (tt, tt) in
-      omega (arith, h.count, bounded_edges n (after i).graph w (omega (arith, (sides_in i l).0)), settled.terms_fit)
+      omega (arith, h.count, bounded_edges n (after i).graph w (omega (arith, (sides_in i l refl).0)), settled.terms_fit)
 
-  module _ (i : ℕ) (h : i < literal_count ls) (f : Fields) (read : f ≡ fields_of (literal_record ls i)) (s : Arrays) (shows : ShowsAfter i s) where
-    -- the sides that were read
-    left_read : f.left ≡ (get_or all i no_literal).left
-    left_read = ap (λ (x : Fields). x.left) read ∙ left_is i h
-
-    right_read : f.right ≡ (get_or all i no_literal).right
-    right_read = ap (λ (x : Fields). x.right) read ∙ right_is i h
-
-    -- the test that the code makes of a record
+  module _ (i : ℕ) (h : i < literal_count ls) (l : Literal) (read : l ≡ literal_of (literal_record ls i)) (s : Arrays) (shows : ShowsAfter i s) where
+    -- the test that the code makes of a literal
     abbrev pub test : Bool
-    test = eqb f.kind 1 && not (eqb (get_or s.labels f.left 0) (get_or s.labels f.right 0))
+    test = is_equal l.kind && not (eqb (get_or s.labels l.left 0) (get_or s.labels l.right 0))
 
     -- is whether a step is taken
-    test_is : test ≡ is_equal (get_or all i no_literal).kind && not (joined (after i).graph (get_or all i no_literal).left (get_or all i no_literal).right)
+    test_is : test ≡ is_equal l.kind && not (joined (after i).graph l.left l.right)
     test_is =
-        let G = (after i).graph in
-        let small = sides_read i h read in
-        let at_left : get_or s.labels f.left 0 ≡ label G (get_or all i no_literal).left =
-        shown_label (terms_of bs) all (after i) s shows f.left (omega (arith, small.0)) ∙ ap (label G) left_read in
-        let at_right : get_or s.labels f.right 0 ≡ label G (get_or all i no_literal).right =
-        shown_label (terms_of bs) all (after i) s shows f.right (omega (arith, small.1)) ∙ ap (label G) right_read in
-        ap₂ (λ (x y : Bool). x && y) (ap (λ (x : Fields). eqb x.kind 1) read ∙ kind_is i h) (ap₂ (λ (x y : ℕ). not (eqb x y)) at_left at_right ∙ ap not (sym (joined_by G (get_or all i no_literal).left (get_or all i no_literal).right)))
+        let small = sides_small i h read in
+        let at_left = shown_label (terms_of bs) all (after i) s shows l.left (omega (arith, small.0)) in
+        let at_right = shown_label (terms_of bs) all (after i) s shows l.right (omega (arith, small.1)) in
+        ap (λ (b : Bool). is_equal l.kind && not b) (ap₂ eqb at_left at_right ∙ sym (joined_by (after i).graph l.left l.right))
 
     -- the state after one record more
-    after_more : after (i + 1) ≡ step_by (get_or all i no_literal) (after i)
-    after_more = steps_more all i no_literal begin (omega (arith, length_literals))
+    after_more : after (i + 1) ≡ step_by l (after i)
+    after_more = steps_more all i no_literal begin (omega (arith, length_literals)) ∙ ap (λ (x : Literal). step_by x (after i)) (sym (literal_is i h read))
+
+    -- by the test
+    step_is : (b : Bool) → test ≡ b → after (i + 1) ≡ cond b (with_edge (after i) l.left l.right l.side basic) (after i)
+    step_is b e = after_more ∙ ap (λ (x : Bool). cond x (with_edge (after i) l.left l.right l.side basic) (after i)) (sym test_is ∙ e)
 
     -- a record whose step is taken
-    pub turn_taken : test ≡ true → (side : Side) → side ≡ cond (eqb f.side 1) A B → (r : Arrays) → ((st : State) → Shows (terms_of bs) all st s → Shows (terms_of bs) all (with_edge st f.left f.right side basic) r) → ShowsAfter (i + 1) r
-    turn_taken e side q r g =
-        let l = get_or all i no_literal in
-        let taken : step_by l (after i) ≡ with_edge (after i) l.left l.right l.side basic =
-        ap (λ (b : Bool). cond b (with_edge (after i) l.left l.right l.side basic) (after i)) (sym test_is ∙ e) in
-        let sides : side ≡ l.side = q ∙ ap (λ (x : Fields). cond (eqb x.side 1) A B) read ∙ side_is i h in
-        let same : with_edge (after i) f.left f.right side basic ≡ with_edge (after i) l.left l.right l.side basic =
-        λ j. with_edge (after i) (left_read j) (right_read j) (sides j) basic in
-        subst (λ (st : State). Shows (terms_of bs) all st r) (same ∙ sym taken ∙ sym after_more) (g (after i) shows)
+    pub turn_taken : test ≡ true → (r : Arrays) → ((st : State) → Shows (terms_of bs) all st s → Shows (terms_of bs) all (with_edge st l.left l.right l.side basic) r) → ShowsAfter (i + 1) r
+    turn_taken e r g = subst (λ (st : State). Shows (terms_of bs) all st r) (sym (step_is true e)) (g (after i) shows)
 
     -- a record that is skipped
     pub turn_left : test ≡ false → ShowsAfter (i + 1) s
-    turn_left e =
-        let l = get_or all i no_literal in
-        let left : step_by l (after i) ≡ after i =
-        ap (λ (b : Bool). cond b (with_edge (after i) l.left l.right l.side basic) (after i)) (sym test_is ∙ e) in
-        subst (λ (st : State). Shows (terms_of bs) all st s) (sym left ∙ sym after_more) shows
+    turn_left e = subst (λ (st : State). Shows (terms_of bs) all st s) (sym (step_is false e)) shows

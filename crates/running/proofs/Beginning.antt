@@ -1,32 +1,35 @@
 -- The arrays filled from the tables show the state before the first step.
+use Rattle.std.proofs.Common.{Result, Ok}
+use Rattle.tables.specs.declared.Refusal.{Refusal}
 use mathlib.Core.Bool.{false}
-use mathlib.Core.List.{List, [], ◌∷◌, ◌++◌, append-nil}
+use mathlib.Core.List.{List, [], ◌++◌, map, append_assoc, append-nil}
 use mathlib.Core.Logic.{⊎_elim}
-use mathlib.Core.Path.{◌≡◌, sym, ap, ◌∙◌}
-use Prim.Native.Nat.{ℕ, ◌+◌, ◌-◌, ◌≤◌, ◌<◌}
+use mathlib.Core.Path.{◌≡◌, sym, ap, ap₂, ◌∙◌}
+use Prim.Native.Nat.{ℕ, ◌+◌, ◌-◌, ◌≤◌, ◌<◌, min}
 use native.Mathlib.Omega.{arith}
 use borrow.Author.Tests.{eqb-false}
 use lib.Dec.{eqb, eqb→eq}
-use lib.ListN.{length, get_or, take, replicate, length-append, length-take, length-replicate, get_or-replicate, get_or-append}
+use lib.ListN.{length, get_or, take, drop, replicate, length-append, length-take, length-replicate, get_or-replicate, get_or-append}
 use lib.Seq.{ext_get_or, get_or-take, get_or-append-add}
+use Rattle.std.proofs.lemmas.List.{replicate-append-replicate, drop-replicate}
+use Rattle.tables.specs.Words.{below}
 use Rattle.tables.specs.Terms.{Term, term_at}
 use Rattle.tables.specs.TermTable.{term_count, term_record, symbol_field, arity_field, argument_field, row_of, term_of, terms_of}
 use Rattle.tables.specs.LiteralTable.{literals_of}
 use Rattle.tables.specs.Colours.{is_in_use}
 use Rattle.tables.specs.Checks.{checked}
 use Rattle.tables.specs.Read.{filled, colour_number, argument_rows, sound_tables, tables_read}
-use Rattle.tables.specs.declared.Check.TheVariants.{Sound}
 use Rattle.tables.specs.declared.Tables.{Tables}
 use Rattle.tables.specs.Rows.{unused_field_not_zero}
 use Rattle.tables.proofs.Words.{by_test, passes, below_or_not}
-use Rattle.tables.proofs.Records.{Filling, filling_all}
-use Rattle.tables.proofs.Filled.{filled_at, filled_agree}
+use Rattle.tables.proofs.Filled.{length_filled, filled_agree}
 use Rattle.tables.proofs.Sound.{SoundTables, sound, sound_read, length_terms_of, term_at_terms_of, row_at, length_row_is, arity_small}
 use Rattle.closure.specs.Steps.{begin, table_of, vertex}
 use Rattle.closure.proofs.Running.Vertices.{vertex_given}
-use Rattle.graphs.specs.Layout.{edges_of, labels_of}
-use Rattle.running.specs.Shown.{padded, row_for, column}
-use Rattle.running.specs.Opening.{ReadFrom, Opens}
+use Rattle.graphs.specs.Layout.{edges_of}
+use Rattle.running.specs.Shown.{padded, column}
+use Rattle.graphs.specs.declared.graph.Graph.{Graph as Kept}
+use Rattle.running.specs.Opening.{ReadFrom, Blank, Opens}
 use Rattle.running.specs.declared.state.State.{State as Arrays}
 
 -- ---- tables that no row refuses
@@ -64,28 +67,32 @@ arity_length bs ls s k h =
     sym (length-take (arity_field r) (row_of r) ∙ omega (arith, length_row_is r, arity_small bs ls s k h))
 
 -- sound tables are read as such
-pub read_sound : (t : Tables) (from : ReadFrom t) → t ≡ sound_tables Sound from.terms from.literals
-read_sound t from = from.read ∙ sound_read from.terms from.literals from.sound
+pub read_sound : (t : Tables) (from : ReadFrom t) → t ≡ sound_tables from.terms from.literals
+read_sound t from = one_ok (sym from.read ∙ sound_read from.terms from.literals from.sound)
+  where
+    one_ok : {x y : Tables} → ◌≡◌ {A = Result Tables Refusal} (Ok x) (Ok y) → x ≡ y
+    one_ok e = cc
+
+-- with the rows of all arguments
+pub rows_are : (t : Tables) (from : ReadFrom t) → t.rows ≡ argument_rows from.terms
+unfolding sound_tables
+rows_are t from = ap (λ (x : Tables). x.rows) (read_sound t from)
 
 -- so they are from the same terms and the literals that are lent
 abbrev pub lent : {t : Tables} (from : ReadFrom t) (ls : List ℕ) → from.literals ≡ ls → ReadFrom t
 lent from ls e =
-    record { terms = from.terms; literals = ls; read = from.read ∙ ap (tables_read from.terms) e; sound = ap (checked from.terms) (sym e) ∙ from.sound }
+    record { terms = from.terms; literals = ls; read = ap (tables_read from.terms) (sym e) ∙ from.read; sound = ap (checked from.terms) (sym e) ∙ from.sound }
 
--- ---- the arrays once they are filled
+-- ---- the arrays as they are laid out
 
--- the first i places are copied from the tables; the rest of the state is set
-pub record Copied (t : Tables) (given : List (List ℕ)) (n i : ℕ) (st : Arrays) : Type 0 where
-  pub fits : n ≤ 256
-  pub terms : st.terms ≡ n
-  pub symbols : Filling 511 0 (λ k. get_or t.symbols k 0) n i st.symbols
-  pub arities : Filling 511 0 (λ k. get_or t.arities k 0) n i st.arities
-  pub rows : Filling 511 (record { args = 0 ∷ 0 ∷ 0 ∷ 0 ∷ [] }) (λ k. record { args = get_or given k [] }) n i st.rows
-  pub colours : Filling 511 0 (λ k. get_or t.colours k 0) n i st.colours
-  pub vertices : Filling 511 false (λ k. get_or t.used k false) n i st.vertices
-  pub edges : edges_of st.graph ≡ []
-  pub count : st.graph.count ≡ 0
-  pub labels : st.labels ≡ labels_of []
+-- an array of the tables with places behind it for the added terms
+pub extended {ℓ} : {X : Type ℓ} (filler : X) (n : ℕ) (f : ℕ → X) → n ≤ 256 → filled 256 filler n f ++ replicate 255 filler ≡ filled 511 filler n f
+unfolding filled
+extended {X = X} filler n f h =
+    let front : min n 256 ≡ min n 511 = omega arith in
+    let rest : 256 - n + 255 ≡ 511 - n = omega arith in
+    append_assoc (map f (below (min n 256))) (replicate (256 - n) filler) (replicate 255 filler) ∙
+    ap₂ (λ (k : ℕ) (l : List X). map f (below k) ++ l) front (replicate-append-replicate (256 - n) 255 filler ∙ ap (λ (k : ℕ). replicate k filler) rest)
 
 module _ (t : Tables) (from : ReadFrom t) where
   abbrev bs : List ℕ
@@ -112,41 +119,43 @@ module _ (t : Tables) (from : ReadFrom t) where
   term_is : (k : ℕ) → k < term_count bs → term_at (table_of (terms_of bs) begin) k ≡ term_of (term_record bs k)
   term_is k h = ap (λ (table : List Term). term_at table k) (append-nil (terms_of bs)) ∙ term_at_terms_of bs k h
 
-  -- an array that was filled from a column of the tables says the same of each term
-  opened_column {ℓ} : {X : Type ℓ} (filler d : X) (g h : ℕ → X) (xs ys : List X) (n i : ℕ) → n ≡ t.terms → n ≤ i → ys ≡ filled 256 filler (term_count bs) g → Filling 511 filler (λ k. get_or ys k d) n i xs → ((k : ℕ) → k < term_count bs → g k ≡ h k) → xs ≡ column filler (table_of (terms_of bs) begin) h
-  opened_column {X = X} filler d g h xs ys n i n-is done are filling same =
-      filling_all 511 filler (λ k. get_or ys k d) n n i xs (omega (arith, terms_fit)) filling done ∙
-      filled_agree 511 filler n (λ k. get_or ys k d) h
-      (λ k l. let w : k < term_count bs = omega (arith, terms_are) in
-      ap (λ (zs : List X). get_or zs k d) are ∙ filled_at g 256 filler (term_count bs) k d w sound_tables_is.terms_fit ∙ same k w) ∙
-      ap (λ (m : ℕ). filled 511 filler m h) (n-is ∙ terms_are ∙ sym length_table)
+  -- the rows of the arguments, which are padded with zeros
+  argument_rows_are : t.rows ≡ filled 256 (padded []) (term_count bs) (λ k. row_of (term_record bs k))
+  unfolding argument_rows padded
+  argument_rows_are = rows_are t from
 
-  pub opens : (given : List (List ℕ)) (n i : ℕ) (st : Arrays) → n ≡ t.terms → n ≤ i → Copied t given n i st → given ≡ argument_rows bs → Opens from st
-  unfolding sound_tables argument_rows padded term_of
-  opens given n i st n-is done c rows_are =
-      let ts = terms_of bs in
-      let lits = literals_of ls in
-      let table = table_of ts begin in
-      let read : t ≡ sound_tables Sound bs ls = read_sound t from in
-      let all : term_count bs ≤ 256 = sound_tables_is.terms_fit in
-      record {
-        within = omega (arith, length_table);
-        terms = c.terms ∙ n-is ∙ terms_are ∙ sym length_table;
-        symbols = opened_column 0 0 (λ k. symbol_field (term_record bs k)) (λ k. (term_at table k).symbol) st.symbols t.symbols n i n-is done (ap (λ (x : Tables). x.symbols) read) c.symbols (λ k l. sym (ap (λ (x : Term). x.symbol) (term_is k l)));
-        arities = opened_column 0 0 (λ k. arity_field (term_record bs k)) (λ k. length (term_at table k).arguments) st.arities t.arities n i n-is done (ap (λ (x : Tables). x.arities) read) c.arities (λ k l. arity_length bs ls sound_tables_is k l ∙ sym (ap (λ (x : Term). length x.arguments) (term_is k l)));
-        rows =
-            filling_all 511 (row_for []) (λ k. record { args = get_or given k [] }) n n i st.rows (omega (arith, terms_fit)) c.rows done ∙
-            filled_agree 511 (row_for []) n (λ k. record { args = get_or given k [] }) (λ k. row_for (term_at table k).arguments)
-            (λ k l. let w : k < term_count bs = omega (arith, terms_are) in
-            ap (λ (r : List ℕ). record { args = r })
-            (ap (λ (rs : List (List ℕ)). get_or rs k []) rows_are ∙ filled_at (λ j. row_of (term_record bs j)) 256 (0 ∷ 0 ∷ 0 ∷ 0 ∷ []) (term_count bs) k [] w all ∙
-            row_padded bs ls sound_tables_is k w ∙ sym (ap (λ (x : Term). padded x.arguments) (term_is k w)))) ∙
-            ap (λ (m : ℕ). filled 511 (row_for []) m (λ k. row_for (term_at table k).arguments)) (n-is ∙ terms_are ∙ sym length_table);
-        colours = opened_column 0 0 (colour_number ts lits ts) (colour_number ts lits table) st.colours t.colours n i n-is done (ap (λ (x : Tables). x.colours) read) c.colours (λ k l. sym (ap (λ (x : List Term). colour_number ts lits x k) (append-nil ts)));
-        vertices =
-            opened_column false false (is_in_use ts lits) (vertex ts lits begin) st.vertices t.used n i n-is done (ap (λ (x : Tables). x.used) read) c.vertices
-            (λ k l. sym (vertex_given ts lits begin k (omega (arith, length_terms_of bs))));
-        edges = c.edges;
-        count = c.count;
-        labels = c.labels;
-      }
+  -- an array with a column of the tables in front says the same of each term
+  laid_column : {X : Type 0} (filler : X) (g h : ℕ → X) {blank xs ys : List X} → ys ≡ filled 256 filler (term_count bs) g → blank ≡ replicate 511 filler → xs ≡ ys ++ drop (length ys) blank → ((k : ℕ) → k < term_count bs → g k ≡ h k) → xs ≡ column filler (table_of (terms_of bs) begin) h
+  laid_column {X = X} filler g h are blank laid same =
+      let size = ap length are ∙ length_filled g 256 filler (term_count bs) in
+      laid ∙
+      (λ i. are i ++ drop (size i) (blank i)) ∙
+      ap (λ (zs : List X). filled 256 filler (term_count bs) g ++ zs) (drop-replicate 256 511 filler) ∙
+      extended filler (term_count bs) g sound_tables_is.terms_fit ∙
+      filled_agree 511 filler (term_count bs) g h same ∙
+      ap (λ (n : ℕ). filled 511 filler n h) (sym length_table)
+
+  -- so blank arrays with all columns in front show the state before the first step
+  module _ (blank st : Arrays) (b : Blank blank) where
+    pub opens :
+        st.terms ≡ t.terms → st.symbols ≡ t.symbols ++ drop (length t.symbols) blank.symbols → st.arities ≡ t.arities ++ drop (length t.arities) blank.arities →
+        st.rows ≡ t.rows ++ drop (length t.rows) blank.rows → st.colours ≡ t.colours ++ drop (length t.colours) blank.colours →
+        st.vertices ≡ t.used ++ drop (length t.used) blank.vertices → st.graph ≡ blank.graph → st.labels ≡ blank.labels → Opens from st
+    unfolding sound_tables term_of
+    opens terms symbols arities rows colours vertices graph labels =
+        let ts = terms_of bs in
+        let lits = literals_of ls in
+        let table = table_of ts begin in
+        let read : t ≡ sound_tables bs ls = read_sound t from in
+        record {
+          within = omega (arith, length_table, sound_tables_is.terms_fit);
+          terms = terms ∙ terms_are ∙ sym length_table;
+          symbols = laid_column 0 (λ k. symbol_field (term_record bs k)) (λ k. (term_at table k).symbol) (ap (λ (x : Tables). x.symbols) read) b.symbols symbols (λ k l. sym (ap (λ (x : Term). x.symbol) (term_is k l)));
+          arities = laid_column 0 (λ k. arity_field (term_record bs k)) (λ k. length (term_at table k).arguments) (ap (λ (x : Tables). x.arities) read) b.arities arities (λ k l. arity_length bs ls sound_tables_is k l ∙ sym (ap (λ (x : Term). length x.arguments) (term_is k l)));
+          rows = laid_column (padded []) (λ k. row_of (term_record bs k)) (λ k. padded (term_at table k).arguments) argument_rows_are b.rows rows (λ k l. row_padded bs ls sound_tables_is k l ∙ sym (ap (λ (x : Term). padded x.arguments) (term_is k l)));
+          colours = laid_column 0 (colour_number ts lits ts) (colour_number ts lits table) (ap (λ (x : Tables). x.colours) read) b.colours colours (λ k l. sym (ap (λ (x : List Term). colour_number ts lits x k) (append-nil ts)));
+          vertices = laid_column false (is_in_use ts lits) (vertex ts lits begin) (ap (λ (x : Tables). x.used) read) b.vertices vertices (λ k l. sym (vertex_given ts lits begin k (omega (arith, length_terms_of bs))));
+          edges = ap edges_of graph ∙ b.edges;
+          count = ap (λ (g : Kept). g.count) graph ∙ b.count;
+          labels = labels ∙ b.labels;
+        }

@@ -1,40 +1,27 @@
 -- What a candidate for a partner is: a pair on which a derived step can be taken is one, and so is no pair that the search passes over.
-use mathlib.Core.Bool.{Bool, true, false, not, ◌&&◌}
+use mathlib.Core.Bool.{Bool, true, not, ◌&&◌}
 use mathlib.Core.List.{List}
-use mathlib.Core.Logic.{⊎_elim}
-use mathlib.Core.Path.{◌≡◌, subst}
-use Prim.Native.Nat.{ℕ, ◌+◌, ◌≤◌, ◌<◌}
-use native.Mathlib.Omega.{arith}
+use mathlib.Core.Path.{◌≡◌}
+use Prim.Native.Nat.{ℕ}
 use borrow.Author.Tests.{eq-eqb, ne_eqb}
 use lib.Dec.{T, eqb, eqb→eq, T_not}
 use lib.ListN.{get_or}
-use Rattle.tables.proofs.Words.{below_or_is, and_left, and_right, and_both, passes, fails}
+use Rattle.tables.proofs.Words.{and_left, and_right, and_both, passes, fails}
 use Rattle.running.specs.Keys.{candidate}
+use Rattle.running.specs.declared.state.State.{State as Arrays}
 
-module _ (keys symbols labels : List ℕ) (s t : ℕ) where
+module _ (keys : List ℕ) (a : Arrays) (s t : ℕ) where
   -- the last two tests, as the code makes them
   abbrev pub others : Bool
-  others = eqb (get_or symbols s 0) (get_or symbols t 0) && not (eqb (get_or labels s 0) (get_or labels t 0))
+  others = eqb (get_or a.symbols s 0) (get_or a.symbols t 0) && not (eqb (get_or a.labels s 0) (get_or a.labels t 0))
 
   -- a term without a key has no partner
-  pub no_candidate : get_or keys s 0 ≡ 0 → T (candidate keys symbols labels s t) → ⊥
+  pub no_candidate : get_or keys s 0 ≡ 0 → T (candidate keys a s t) → ⊥
   unfolding candidate
   no_candidate e h = T_not (eqb (get_or keys s 0) 0) (and_left (not (eqb (get_or keys s 0) 0)) (eqb (get_or keys s 0) (get_or keys t 0) && others) h) (passes (eqb (get_or keys s 0) 0) (eq-eqb (get_or keys s 0) 0 e))
 
-  -- a term of another key is none
-  pub other_key : (get_or keys s 0 ≡ get_or keys t 0 → ⊥) → T (candidate keys symbols labels s t) → ⊥
-  unfolding candidate
-  other_key f h =
-      f (eqb→eq (get_or keys s 0) (get_or keys t 0) (and_left (eqb (get_or keys s 0) (get_or keys t 0)) others (and_right (not (eqb (get_or keys s 0) 0)) (eqb (get_or keys s 0) (get_or keys t 0) && others) h)))
-
-  -- nor is one of which the other tests fail
-  pub other_test : others ≡ false → T (candidate keys symbols labels s t) → ⊥
-  unfolding candidate
-  other_test e h =
-      T_not others (fails others e) (and_right (eqb (get_or keys s 0) (get_or keys t 0)) others (and_right (not (eqb (get_or keys s 0) 0)) (eqb (get_or keys s 0) (get_or keys t 0) && others) h))
-
   -- one of which all tests pass is a candidate
-  pub is_candidate : (get_or keys s 0 ≡ 0 → ⊥) → get_or keys s 0 ≡ get_or keys t 0 → others ≡ true → T (candidate keys symbols labels s t)
+  pub is_candidate : (get_or keys s 0 ≡ 0 → ⊥) → get_or keys s 0 ≡ get_or keys t 0 → others ≡ true → T (candidate keys a s t)
   unfolding candidate
   is_candidate f e o =
       and_both (not (eqb (get_or keys s 0) 0)) (eqb (get_or keys s 0) (get_or keys t 0) && others)
@@ -42,18 +29,13 @@ module _ (keys symbols labels : List ℕ) (s t : ℕ) where
       (and_both (eqb (get_or keys s 0) (get_or keys t 0)) others (passes (eqb (get_or keys s 0) (get_or keys t 0)) (eq-eqb (get_or keys s 0) (get_or keys t 0) e)) (passes others o))
 
   -- what its tests say
-  pub candidate_parts : T (candidate keys symbols labels s t) → (get_or keys s 0 ≡ 0 → ⊥) × (get_or keys s 0 ≡ get_or keys t 0) × (get_or symbols s 0 ≡ get_or symbols t 0) × T (not (eqb (get_or labels s 0) (get_or labels t 0)))
+  pub candidate_parts : T (candidate keys a s t) → (get_or keys s 0 ≡ 0 → ⊥) × (get_or keys s 0 ≡ get_or keys t 0) × (get_or a.symbols s 0 ≡ get_or a.symbols t 0) × T (not (eqb (get_or a.labels s 0) (get_or a.labels t 0)))
   unfolding candidate
   candidate_parts h =
       let key = not (eqb (get_or keys s 0) 0) in
       let keyed = eqb (get_or keys s 0) (get_or keys t 0) in
-      let alike = eqb (get_or symbols s 0) (get_or symbols t 0) in
-      let apart = not (eqb (get_or labels s 0) (get_or labels t 0)) in
+      let alike = eqb (get_or a.symbols s 0) (get_or a.symbols t 0) in
+      let apart = not (eqb (get_or a.labels s 0) (get_or a.labels t 0)) in
       let rest = and_right key (keyed && others) h in
       let last = and_right keyed others rest in
-      ((λ e. no_candidate e h), eqb→eq (get_or keys s 0) (get_or keys t 0) (and_left keyed others rest), eqb→eq (get_or symbols s 0) (get_or symbols t 0) (and_left alike apart last), and_right alike apart last)
-
--- a search passes over a number that is no candidate
-pub not_next : (P : ℕ → Type 0) (from t : ℕ) → ((k : ℕ) → from ≤ k → k < t → P k → ⊥) → (P t → ⊥) → (k : ℕ) → from ≤ k → k < t + 1 → P k → ⊥
-not_next P from t f g k l h =
-    ⊎_elim (λ (w : k < t). f k l w) (λ (e : k ≡ t). λ p. g (subst P e p)) (below_or_is k t (omega arith))
+      ((λ e. no_candidate e h), eqb→eq (get_or keys s 0) (get_or keys t 0) (and_left keyed others rest), eqb→eq (get_or a.symbols s 0) (get_or a.symbols t 0) (and_left alike apart last), and_right alike apart last)

@@ -1,14 +1,15 @@
 -- The choice of shared terms, argument by argument: the first shared stop on each parent path.
-use mathlib.Core.Bool.{true, false}
+use Rattle.std.proofs.Common.{Option, Some, None, option_map}
+use mathlib.Core.Bool.{Bool, cond}
+use Rattle.std.specs.List.{All, find}
 use mathlib.Core.List.{List, [], ◌∷◌, ◌++◌, append_assoc, append-nil, Memᴰ}
-use mathlib.Core.Option.{Option, some, none}
 use mathlib.Core.Path.{◌≡◌, refl, sym, ap, ap₂, subst, ◌∙◌}
 use Prim.Native.Nat.{ℕ, suc, ◌+◌, ◌-◌, ◌≤◌, ◌<◌}
 use native.Mathlib.Numerals.{add-one}
 use native.Mathlib.Omega.{arith}
 use lib.Dec.{T, eqb, ltb, lt→ltb, ltb→lt}
-use lib.ListN.{length, get_or, take, drop, set, replicate, length-append, length-take, length-map, drop_of_length-le}
-use lib.Seq.{drop-cons, get_or-take, set_at}
+use lib.ListN.{length, get_or, take, drop, set, replicate, length-append, drop_of_length-le}
+use lib.Seq.{drop-cons, set_at}
 use Rattle.tables.specs.Words.{first_of}
 use Rattle.tables.specs.Colours.{shared}
 use Rattle.tables.specs.Read.{colour_number}
@@ -20,10 +21,10 @@ use Rattle.closure.specs.OwnRun.{and_then, first_shared}
 use Rattle.closure.specs.Forests.{EndsBelow}
 use Rattle.running.specs.Shown.{padded}
 use Rattle.graphs.specs.Trails.{Joining, TrailOf}
-use Rattle.running.specs.Stepping.{Choosing, ChoiceOf}
-use Rattle.running.specs.declared.Row.{Row}
+use Rattle.running.specs.Stepping.{Choosing}
+use Rattle.running.specs.declared.state.State.{State as Arrays}
+use Rattle.graphs.specs.declared.rooting.Rooting.{Rooting}
 use Rattle.graphs.specs.declared.paths.Trail.{Trail}
-use Rattle.running.specs.declared.step.Choice.{Choice}
 use Rattle.closure.proofs.Walking.Places.{joined_at}
 use Rattle.closure.proofs.Walking.ParentPaths.{each_map}
 use Rattle.closure.proofs.Running.Vertices.{EndsAmong, walk_among}
@@ -52,16 +53,26 @@ padded_more ms j m e h =
 
 -- the terms chosen first, and then the others, if there are any
 unfoldable pub prepend : List ℕ → Option (List ℕ) → Option (List ℕ)
-prepend ms none = none
-prepend ms (some ns) = some (ms ++ ns)
+prepend ms None = None
+prepend ms (Some ns) = Some (ms ++ ns)
 
 -- one more of them
-prepend_more : (ms : List ℕ) (m : ℕ) (o : Option (List ℕ)) → prepend ms (and_then (some m) o) ≡ prepend (ms ++ (m ∷ [])) o
+prepend_more : (ms : List ℕ) (m : ℕ) (o : Option (List ℕ)) → prepend ms (and_then (Some m) o) ≡ prepend (ms ++ (m ∷ [])) o
 unfolding prepend and_then
-prepend_more ms m none = refl
-prepend_more ms m (some ns) = ap (λ (l : List ℕ). some l) (sym (append_assoc ms (m ∷ []) ns))
+prepend_more ms m None = refl
+prepend_more ms m (Some ns) = ap (λ (l : List ℕ). Some l) (sym (append_assoc ms (m ∷ []) ns))
 
-module _ {colours toward by rank : List ℕ} {of-s of_t : Row} {arity : ℕ} (w : Choosing colours toward by rank of-s of_t arity) where
+-- what the library finds is the first that passes
+found_first : (p : ℕ → Bool) (xs : List ℕ) → find p xs ≡ first_of p xs
+unfolding first_of
+found_first p [] = refl
+found_first p (x ∷ xs) = ap (cond (p x) (Some x)) (found_first p xs)
+
+module _ {a : Arrays} {forest : Rooting} {s t : ℕ} (w : Choosing a forest s t) where
+  -- the arity of s
+  abbrev arity : ℕ
+  arity = get_or a.arities s 0
+
   -- the choice for the arguments from j on
   abbrev from : ℕ → Option (List ℕ)
   from j = first_shared w.ts w.ls w.table w.graph (drop j w.left) (drop j w.right)
@@ -84,21 +95,21 @@ module _ {colours toward by rank : List ℕ} {of-s of_t : Row} {arity : ℕ} (w 
   chosen_nothing = record { within = omega arith; terms = []; count = refl; row = refl; rest = go choice }
     where
       go : (o : Option (List ℕ)) → o ≡ prepend [] o
-      go none = refl
-      go (some ns) = refl
+      go None = refl
+      go (Some ns) = refl
 
   -- all are chosen
-  pub chosen_all : (args : List ℕ) (j : ℕ) → Chosen args j → arity ≤ j → (ms : List ℕ) × (choice ≡ some ms) × (args ≡ padded ms)
+  pub chosen_all : (args : List ℕ) (j : ℕ) → Chosen args j → arity ≤ j → Some args ≡ option_map padded choice
   unfolding first_shared prepend
-  chosen_all args j h l = (
-    h.terms,
-    h.rest ∙
-        ap₂ (λ (xs ys : List ℕ). prepend h.terms (first_shared w.ts w.ls w.table w.graph xs ys))
-        (drop_of_length-le w.left {i = j} (omega (arith, w.left_length)))
-        (drop_of_length-le w.right {i = j} (omega (arith, w.right_length))) ∙
-        ap (λ (l : List ℕ). some l) (append-nil h.terms),
-    h.row,
-  )
+  chosen_all args j h l =
+      ap (λ (l : List ℕ). Some l) h.row ∙
+      sym
+      (ap (option_map padded)
+      (h.rest ∙
+      ap₂ (λ (xs ys : List ℕ). prepend h.terms (first_shared w.ts w.ls w.table w.graph xs ys))
+      (drop_of_length-le w.left {i = j} (omega (arith, w.left_length)))
+      (drop_of_length-le w.right {i = j} (omega (arith, w.right_length))) ∙
+      ap (λ (l : List ℕ). Some l) (append-nil h.terms)))
 
   module _ (j : ℕ) (l : j < arity) where
     -- the two arguments at j
@@ -110,11 +121,11 @@ module _ {colours toward by rank : List ℕ} {of-s of_t : Row} {arity : ℕ} (w 
     v = get_or w.right j 0
 
     -- the code reads them off the rows
-    pub left_field : get_or of-s.args j 0 ≡ u
+    pub left_field : get_or (get_or a.rows s []) j 0 ≡ u
     left_field = ap (λ (xs : List ℕ). get_or xs j 0) w.left_is ∙ padded_at w.left j
 
     -- and so of t
-    pub right_field : get_or of_t.args j 0 ≡ v
+    pub right_field : get_or (get_or a.rows t []) j 0 ≡ v
     right_field = ap (λ (xs : List ℕ). get_or xs j 0) w.right_is ∙ padded_at w.right j
 
     -- they are terms of the table
@@ -130,11 +141,11 @@ module _ {colours toward by rank : List ℕ} {of-s of_t : Row} {arity : ℕ} (w 
     are_joined = (joined_at w.graph w.left w.right w.join j (omega (arith, w.left_length))).1
 
     -- so the code can walk between them
-    pub walks : Joining toward by rank (get_or of-s.args j 0) (get_or of_t.args j 0) w.graph
-    walks = record { forest = w.forest; rooted = w.rooted; join = subst (λ (x : ℕ). T (joined w.graph x (get_or of_t.args j 0))) (sym left_field) (subst (λ (y : ℕ). T (joined w.graph u y)) (sym right_field) are_joined) }
+    pub walks : Joining forest (get_or (get_or a.rows s []) j 0) (get_or (get_or a.rows t []) j 0) w.graph
+    walks = record { forest = w.acyclic; rooted = w.rooted; join = subst (λ (x : ℕ). T (joined w.graph x (get_or (get_or a.rows t []) j 0))) (sym left_field) (subst (λ (y : ℕ). T (joined w.graph u y)) (sym right_field) are_joined) }
 
     -- what the walk asks for
-    pub can_walk : (get_or of-s.args j 0 < 511) × (get_or of_t.args j 0 < 511) × ((G : Graph) × Joining toward by rank (get_or of-s.args j 0) (get_or of_t.args j 0) G)
+    pub can_walk : (get_or (get_or a.rows s []) j 0 < 511) × (get_or (get_or a.rows t []) j 0 < 511) × ((G : Graph) × Joining forest (get_or (get_or a.rows s []) j 0) (get_or (get_or a.rows t []) j 0) G)
     can_walk = (omega (arith, left_field, left_below, w.within), omega (arith, right_field, right_below, w.within), (w.graph, walks))
 
     -- the first shared term on the way
@@ -150,12 +161,12 @@ module _ {colours toward by rank : List ℕ} {of-s of_t : Row} {arity : ℕ} (w 
         (drop-cons w.right j 0 (omega (arith, w.right_length)))
 
     -- a parent path has no shared term
-    pub chosen_stuck : (args : List ℕ) → Chosen args j → met ≡ none → choice ≡ none
+    pub chosen_stuck : (args : List ℕ) → Chosen args j → met ≡ None → None ≡ option_map padded choice
     unfolding prepend and_then
-    chosen_stuck args h e = h.rest ∙ ap (prepend h.terms) (from_cons ∙ ap (λ (o : Option ℕ). and_then o (from (suc j))) e)
+    chosen_stuck args h e = sym (ap (option_map padded) (h.rest ∙ ap (prepend h.terms) (from_cons ∙ ap (λ (o : Option ℕ). and_then o (from (suc j))) e)))
 
     -- one argument more
-    pub chosen_more : (args : List ℕ) (m : ℕ) → Chosen args j → met ≡ some m → Chosen (set args j m) (j + 1)
+    pub chosen_more : (args : List ℕ) (m : ℕ) → Chosen args j → met ≡ Some m → Chosen (set args j m) (j + 1)
     chosen_more args m h e =
         record {
           within = omega arith;
@@ -168,38 +179,24 @@ module _ {colours toward by rank : List ℕ} {of-s of_t : Row} {arity : ℕ} (w 
               ap (λ (k : ℕ). prepend (h.terms ++ (m ∷ [])) (from k)) (sym (add-one j));
         }
 
-    module _ (r : Trail) (trail : TrailOf w.graph (get_or of-s.args j 0) (get_or of_t.args j 0) r) where
+    module _ (r : Trail) (trail : TrailOf w.graph (get_or (get_or a.rows s []) j 0) (get_or (get_or a.rows t []) j 0) r) where
       -- the stops are those of the path
       stops_are : take (r.hops + 1) r.stops ≡ vertices u (path w.graph u v)
       stops_are = trail.stops ∙ ap₂ (λ (x y : ℕ). vertices x (path w.graph x y)) left_field right_field
 
-      -- there is room for them
-      pub stops_fit : r.hops < length r.stops
-      stops_fit = omega (arith, length-take (r.hops + 1) r.stops, ap length trail.stops, length-map (path w.graph (get_or of-s.args j 0) (get_or of_t.args j 0)) (λ h. h.to), trail.hops)
-
       -- they are terms of the table
-      pub stops_below : (i : ℕ) → i ≤ r.hops → get_or r.stops i 0 < 511
-      stops_below i h =
+      pub stops_below : All (λ m. m < 511) (take (r.hops + 1) r.stops)
+      stops_below i d h =
           let front = take (r.hops + 1) r.stops in
-          let there : Memᴰ (get_or front i 0) front = get_d_mem front i 0 (omega (arith, length-take (r.hops + 1) r.stops, stops_fit)) in
-          omega (arith, get_or-take (r.hops + 1) r.stops i 0 (omega arith), w.within, path_below (length w.table) w.graph u v w.ends left_below are_joined (get_or front i 0) (subst (Memᴰ (get_or front i 0)) stops_are there))
+          omega (arith, w.within, path_below (length w.table) w.graph u v w.ends left_below are_joined (get_or front i d) (subst (Memᴰ (get_or front i d)) stops_are (get_d_mem front i d h)))
 
       -- what the code meets is the first shared term
-      pub met_is : first_of (λ x. eqb (get_or colours x 0) 3) (take (r.hops + 1) r.stops) ≡ met
+      pub met_is : find (λ x. eqb (get_or a.colours x 0) 3) (take (r.hops + 1) r.stops) ≡ met
       met_is =
-          ap (first_of (λ x. eqb (get_or colours x 0) 3)) stops_are ∙
-          first_of_agree (λ x. eqb (get_or colours x 0) 3) (shared w.ts w.ls w.table) (vertices u (path w.graph u v))
+          ap (find (λ x. eqb (get_or a.colours x 0) 3)) stops_are ∙
+          found_first (λ x. eqb (get_or a.colours x 0) 3) (vertices u (path w.graph u v)) ∙
+          first_of_agree (λ x. eqb (get_or a.colours x 0) 3) (shared w.ts w.ls w.table) (vertices u (path w.graph u v))
           (λ x m. ap (λ (k : ℕ). eqb k 3)
           (ap (λ (xs : List ℕ). get_or xs x 0) w.coloured ∙
           filled_at (colour_number w.ts w.ls w.table) 511 0 (length w.table) x 0 (path_below (length w.table) w.graph u v w.ends left_below are_joined x m) w.within) ∙
           shared_test w.ts w.ls w.table x)
-
--- ---- what is handed out
-
--- no choice
-pub hands_none : (o : Option (List ℕ)) (c : Choice) → o ≡ none → c.stuck ≡ true → ChoiceOf o c
-hands_none o c e stuck = subst (λ (x : Option (List ℕ)). ChoiceOf x c) (sym e) stuck
-
--- the chosen terms
-pub hands_some : (o : Option (List ℕ)) (c : Choice) → c.stuck ≡ false → (ms : List ℕ) × (o ≡ some ms) × (c.row.args ≡ padded ms) → ChoiceOf o c
-hands_some o c free h = subst (λ (x : Option (List ℕ)). ChoiceOf x c) (sym h.1) (free, h.2)

@@ -10,7 +10,10 @@ use lib.Dec.{T, eqb}
 use lib.ListN.{length, get_or, set, replicate}
 use lib.Seq.{get_or-set_same, get_or-set_other}
 use Rattle.tables.proofs.Words.{by_test, below_or_is}
-use Rattle.running.specs.Keys.{EndsOf, candidate}
+use Rattle.std.proofs.Common.{Bool, true, false, Option, Some, None}
+use Rattle.std.specs.Option.{MatchOption}
+use Rattle.running.specs.Keys.{EndsOf, candidate, NextFrom}
+use Rattle.running.specs.declared.state.State.{State as Arrays}
 use Rattle.running.proofs.Arrays.{zeros_behind}
 use Rattle.running.proofs.Candidates.{candidate_parts}
 
@@ -45,6 +48,16 @@ module _ (keys ends : List ℕ) (t : ℕ) (long : length ends ≡ 1021) (so_far 
       }
 
 -- a candidate for a partner of s stands before the end of the residue of s
-pub before_end : (keys symbols labels ends : List ℕ) (given s k : ℕ) → EndsOf keys given ends → k < given → T (candidate keys symbols labels s k) → k < get_or ends (get_or keys s 0 % 1021) 0
-before_end keys symbols labels ends given s k all h w =
-    subst (λ (key : ℕ). k < get_or ends (key % 1021) 0) (sym (candidate_parts keys symbols labels s k w).1) (all.before k h)
+pub before_end : (keys : List ℕ) (a : Arrays) (ends : List ℕ) (given s k : ℕ) → EndsOf keys given ends → k < given → T (candidate keys a s k) → k < get_or ends (get_or keys s 0 % 1021) 0
+before_end keys a ends given s k all h w =
+    subst (λ (key : ℕ). k < get_or ends (key % 1021) 0) (sym (candidate_parts keys a s k w).1) (all.before k h)
+
+-- what is found first before an end is found first at all, where nothing stands behind the end
+pub next_from : (p : ℕ → Bool) (from n end : ℕ) → end ≤ n → ((k : ℕ) → k < n → T (p k) → k < end) → (r : Option ℕ) → MatchOption r ((k : ℕ) → from ≤ k → k < end → ¬ (T (p k))) (λ i. (from ≤ i) × (i < end) × T (p i) × ((k : ℕ) → from ≤ k → k < i → ¬ (T (p k)))) → NextFrom p from n r
+next_from p from n end fits behind None h = λ k l m w. h k l (behind k m w) w
+next_from p from n end fits behind (Some i) (l, m, w, before) = (l, omega (arith, fits), w, before)
+
+-- what fails does not pass
+pub not_passes : (b : Bool) → b ≡ false → ¬ (T b)
+not_passes false e w = w
+not_passes true e w = cc

@@ -1,9 +1,9 @@
 -- The first pair that passes a test, in the order "smallest s, then smallest t": it passes, and no pair before it does.
+use Rattle.std.proofs.Common.{Some, None}
 use mathlib.Core.Bool.{Bool}
 use mathlib.Core.List.Memᴰ
 use mathlib.Core.List.{List, ◌∷◌, ◌++◌, map, map-append, append_assoc, flat_map, Memᴰ}
 use mathlib.Core.Logic.{◌⊎◌, inl, inr, ⊎_elim}
-use mathlib.Core.Option.{some, none}
 use mathlib.Core.Path.{◌≡◌, refl, sym, ap, subst, ◌∙◌}
 use Prim.Native.Nat.{ℕ, ◌<◌}
 use native.Mathlib.Omega.{arith}
@@ -32,11 +32,11 @@ Before s t a b = (a < s) ⊎ ((a ≡ s) × (b < t))
 
 module _ (n : ℕ) (p : Pair → Bool) where
   -- no pair passes
-  pub no_pair : ((a b : ℕ) → a < b → b < n → T (p (pair a b)) → ⊥) → first_of p (pairs_below n) ≡ none
+  pub no_pair : ((a b : ℕ) → a < b → b < n → T (p (pair a b)) → ⊥) → first_of p (pairs_below n) ≡ None
   no_pair f = none_first_of p (pairs_below n) (λ x m h. let w = pairs_below_mem n x m in f x.left x.right w.0 w.1 h)
 
   -- a pair passes, and none before it
-  pub first_pair_is : (s t : ℕ) → s < t → t < n → T (p (pair s t)) → ((a b : ℕ) → a < b → b < n → Before s t a b → T (p (pair a b)) → ⊥) → first_of p (pairs_below n) ≡ some (pair s t)
+  pub first_pair_is : (s t : ℕ) → s < t → t < n → T (p (pair s t)) → ((a b : ℕ) → a < b → b < n → Before s t a b → T (p (pair a b)) → ⊥) → first_of p (pairs_below n) ≡ Some (pair s t)
   unfolding flat_map
   first_pair_is s t h l passing f =
       let row : ℕ → List Pair = λ a. map (pair a) (keep (ltb a) (below n)) in

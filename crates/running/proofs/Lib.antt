@@ -13,5 +13,4 @@ pub mod OnRuns
 pub mod OwnTurns
 pub mod PairTest
 pub mod Showing
-pub mod Stops
 pub mod Tying

@@ -1,15 +1,16 @@
 -- What the arrays of a state of a run hold: numbers that fit, rows of four, a rooted forest to choose on, and room for the next step.
-use mathlib.Core.Bool.{Bool, true, false, not}
+use Rattle.std.specs.Option.{ok_or}
+use Rattle.std.proofs.Common.{Option, Some, None, option_map, Ok, Err}
+use mathlib.Core.Bool.{not}
 use mathlib.Core.List.{List, [], ◌∷◌, ◌++◌, append_assoc}
-use mathlib.Core.Logic.{inr, ⊎_elim}
-use mathlib.Core.Option.{Option, some, none, map}
+use mathlib.Core.Logic.{⊎_elim}
 use mathlib.Core.Path.{◌≡◌, sym, ap, subst, ◌∙◌}
 use Prim.Native.Nat.{ℕ, ◌≤◌, ◌<◌}
 use native.Mathlib.Omega.{arith}
 use lib.Dec.{T, not_T}
 use lib.ListN.{length, get_or, length-append, length-map}
 use Rattle.tables.specs.Terms.{Term, term_at}
-use Rattle.tables.specs.LiteralTable.{Literal}
+use Rattle.tables.specs.declared.Literal.{Literal}
 use Rattle.tables.specs.declared.Side.TheVariants.{A, B}
 use Rattle.tables.specs.Colours.{colourable, shared}
 use Rattle.tables.proofs.Words.{and_both, below_or_not}
@@ -20,12 +21,11 @@ use Rattle.closure.specs.OwnRun.{first_shared, middle_from}
 use Rattle.closure.specs.Forests.{Forest, EndsBelow}
 use Rattle.graphs.specs.Layout.{edges_of, labels_of}
 use Rattle.graphs.specs.Rooting.{RootedBy}
+use Rattle.graphs.specs.declared.rooting.Rooting.{Rooting}
 use Rattle.running.specs.Shown.{padded, Shows}
-use Rattle.running.specs.Keys.{no_row}
-use Rattle.running.specs.Stepping.{Choosing, ChoiceOf, Placing, OnRun, Apart, Outcome}
-use Rattle.running.specs.declared.Row.{Row}
+use Rattle.running.specs.Stepping.{Choosing, Placing, OnRun, Apart, Reaches}
 use Rattle.running.specs.declared.state.State.{State as Arrays}
-use Rattle.running.specs.declared.step.Choice.{Choice}
+use Rattle.running.specs.declared.state.Stuck.{Stuck}
 use Rattle.running.proofs.Agreeing.{joined_labels}
 use Rattle.closure.proofs.Running.Congruent.{congruent_arguments}
 use Rattle.closure.proofs.Running.Larger.{extends_term}
@@ -39,10 +39,6 @@ use Rattle.closure.proofs.Running.EdgesAndSteps.{tied_new, tied_added, tied_no_f
 use Rattle.closure.proofs.Running.FewSteps.{few_added, few_edges}
 use Rattle.running.proofs.Showing.{shown_symbol, shown_arity, shown_row}
 use Rattle.running.proofs.Tying.{joined_same}
-
--- no test is both
-pub not_both : {b : Bool} → b ≡ false → b ≡ true → ⊥
-not_both e q = let z : ◌≡◌ {A = ℕ} 0 1 = cc in omega arith
 
 -- terms joined pair by pair are equally many
 pub pairwise_length : (G : Graph) (xs ys : List ℕ) → T (joined_pairwise G xs ys) → length xs ≡ length ys
@@ -132,8 +128,8 @@ module _ {a : Arrays} (run : OnRun a) where
     alike_arguments = congruent_arguments table st.graph s t apart.alike
 
     -- the choice that the code makes can be made
-    pub choosing : (toward by rank : List ℕ) → RootedBy (edges_of a.graph) toward by rank → Choosing a.colours toward by rank (get_or a.rows s no_row) (get_or a.rows t no_row) (get_or a.arities s 0)
-    choosing toward by rank rooted =
+    pub choosing : (forest : Rooting) → RootedBy (edges_of a.graph) forest → Choosing a forest s t
+    choosing forest rooted =
         record {
           ts = ts;
           ls = ls;
@@ -143,31 +139,26 @@ module _ {a : Arrays} (run : OnRun a) where
           right = arguments t;
           within = run.shows.within;
           coloured = run.shows.colours;
-          forest = on_run_forest;
+          acyclic = on_run_forest;
           ends = on_run_ends;
-          rooted = subst (λ (G : Graph). RootedBy G toward by rank) run.shows.edges rooted;
+          rooted = subst (λ (G : Graph). RootedBy G forest) run.shows.edges rooted;
           small = omega (arith, shown_arity ts ls st a run.shows s s_within, arity_small s s_within);
-          left_is = ap (λ (r : Row). r.args) (shown_row ts ls st a run.shows s s_within);
+          left_is = shown_row ts ls st a run.shows s s_within;
           left_length = sym (shown_arity ts ls st a run.shows s s_within);
           left_within = λ x m. omega (arith, on_run_sound.lower s s_within x m, s_within);
-          right_is = ap (λ (r : Row). r.args) (shown_row ts ls st a run.shows t t_within);
+          right_is = shown_row ts ls st a run.shows t t_within;
           right_length = sym (pairwise_length st.graph (arguments s) (arguments t) alike_arguments) ∙ sym (shown_arity ts ls st a run.shows s s_within);
           right_within = λ x m. omega (arith, on_run_sound.lower t t_within x m, t_within);
           join = alike_arguments;
         }
 
     -- the choice that is there
-    pub found : (chosen : List ℕ) × (first_shared ts ls table st.graph (arguments s) (arguments t) ≡ some chosen) × Chosen ts ls table st.graph (arguments s) (arguments t) chosen
+    pub found : (chosen : List ℕ) × (first_shared ts ls table st.graph (arguments s) (arguments t) ≡ Some chosen) × Chosen ts ls table st.graph (arguments s) (arguments t) chosen
     found = middle_found ts ls table on_run_sound.lower st.graph on_run_sound.edges s t s_within t_within apart.alike apart.left_a apart.right_b
 
     -- the terms chosen
     abbrev pub terms : List ℕ
     terms = found.0
-
-    -- what the code chooses is it
-    pub choice_found : (toward by rank : List ℕ) → RootedBy (edges_of a.graph) toward by rank → (c : Choice) → ((w : Choosing a.colours toward by rank (get_or a.rows s no_row) (get_or a.rows t no_row) (get_or a.arities s 0)) → ChoiceOf (first_shared w.ts w.ls w.table w.graph w.left w.right) c) → (c.stuck ≡ false) × (c.row.args ≡ padded terms)
-    unfolding choosing
-    choice_found toward by rank rooted c h = subst (λ (o : Option (List ℕ)). ChoiceOf o c) found.1 (h (choosing toward by rank rooted))
 
     -- the middle term
     abbrev pub middle : Term
@@ -188,9 +179,9 @@ module _ {a : Arrays} (run : OnRun a) where
     the_step = middle_step s t terms apart.left_vertex apart.right_vertex apart.unjoined apart.alike left_only right_only found.2
 
     -- and the one that the library takes
-    pub middle_taken : middle_from ts ls st s t ≡ some (with_middle ts ls st s t terms)
+    pub middle_taken : middle_from ts ls st s t ≡ Some (with_middle ts ls st s t terms)
     unfolding middle_from
-    middle_taken = ap (map (with_middle ts ls st s t)) found.1
+    middle_taken = ap (option_map (with_middle ts ls st s t)) found.1
 
     -- each end may be tied to the middle term in its place
     ready : Ready ts ls s t (placed ts ls st middle)
@@ -211,7 +202,7 @@ module _ {a : Arrays} (run : OnRun a) where
     put_edges = step_edges the_step
 
     -- where no vertex equals the middle term, it comes behind the table
-    new_table : vertex_equal ts ls st middle ≡ none → table_of ts put.state ≡ table ++ (middle ∷ [])
+    new_table : vertex_equal ts ls st middle ≡ None → table_of ts put.state ≡ table ++ (middle ∷ [])
     unfolding placed place_as
     new_table e = ap (λ (o : Option ℕ). table_of ts (place_as ts st middle o).state) e ∙ sym (append_assoc ts st.added (middle ∷ []))
 
@@ -220,40 +211,54 @@ module _ {a : Arrays} (run : OnRun a) where
     put_fits = omega (arith, length-append ts put.state.added, ap length put_added, step_added the_step, run.checked.few)
 
     -- so there is room for the middle term
-    new_fits : vertex_equal ts ls st middle ≡ none → length table < 511
+    new_fits : vertex_equal ts ls st middle ≡ None → length table < 511
     new_fits e = omega (arith, ap length (new_table e), length-append table (middle ∷ []), put_fits)
 
     -- which is shared
-    new_is_shared : vertex_equal ts ls st middle ≡ none → T (shared ts ls (table ++ (middle ∷ [])) (length table))
+    new_is_shared : vertex_equal ts ls st middle ≡ None → T (shared ts ls (table ++ (middle ∷ [])) (length table))
     new_is_shared e =
         subst (λ (tb : List Term). T (shared ts ls tb (length table))) (new_table e)
         (ready.sound.added_shared (length table) (omega (arith, length-append ts st.added)) (omega (arith, ap length (new_table e), length-append table (middle ∷ []))))
 
-    -- what the code places is the middle term
-    pub placing : (row : Row) → row.args ≡ padded terms → Placing a (get_or a.symbols s 0) (get_or a.arities s 0) row
-    placing row row_is =
-        let lengths : length (arguments s) ≡ length terms = pairwise_length st.graph (arguments s) terms (chosen_joined ts ls table st.graph found.2 alike_arguments) in
-        let arity : get_or a.arities s 0 ≡ length (arguments s) = shown_arity ts ls st a run.shows s s_within in
-        record {
-          ts = ts;
-          ls = ls;
-          reached = st;
-          middle = middle;
-          shows = run.shows;
-          lower = on_run_sound.lower;
-          small = arity_small;
-          symbol_is = sym (shown_symbol ts ls st a run.shows s s_within);
-          arity_is = sym lengths ∙ sym arity;
-          arity_small = omega (arith, arity, arity_small s s_within);
-          row_is = row_is;
-          room = new_fits;
-          new_shared = new_is_shared;
-        }
+    -- what the code chooses is the middle term's row
+    module _ (forest : Rooting) (rooted : RootedBy (edges_of a.graph) forest) (choice : Option (List ℕ)) (chosen : (w : Choosing a forest s t) → choice ≡ option_map padded (first_shared w.ts w.ls w.table w.graph w.left w.right)) {stuck : Stuck} where
+      choice_is : choice ≡ Some (padded terms)
+      unfolding choosing
+      choice_is = chosen (choosing forest rooted) ∙ ap (option_map padded) found.1
 
-    -- it is in its place
-    pub put_shown : (row : Row) → row.args ≡ padded terms → (p : Arrays) (k : ℕ) → ((q : Placing a (get_or a.symbols s 0) (get_or a.arities s 0) row) → Shows q.ts q.ls (placed q.ts q.ls q.reached q.middle).state p × (k ≡ (placed q.ts q.ls q.reached q.middle).number)) → Shows ts ls put.state p × (k ≡ put.number)
-    unfolding placing
-    put_shown row row_is p k h = h (placing row row_is)
+      -- so there is one
+      pub choice_there : {e : Stuck} → Err e ≡ ok_or choice stuck → ⊥
+      choice_there q = let f = choice_is in cc
+
+      module _ (row : List ℕ) (handed : Ok row ≡ ok_or choice stuck) where
+        row_is : row ≡ padded terms
+        row_is = let f = choice_is in cc
+
+        -- it can be placed
+        pub placing : Placing a s row
+        placing =
+            let lengths : length (arguments s) ≡ length terms = pairwise_length st.graph (arguments s) terms (chosen_joined ts ls table st.graph found.2 alike_arguments) in
+            let arity : get_or a.arities s 0 ≡ length (arguments s) = shown_arity ts ls st a run.shows s s_within in
+            record {
+              ts = ts;
+              ls = ls;
+              reached = st;
+              middle = middle;
+              shows = run.shows;
+              lower = on_run_sound.lower;
+              small = arity_small;
+              symbol_is = sym (shown_symbol ts ls st a run.shows s s_within);
+              arity_is = sym lengths ∙ sym arity;
+              arity_small = omega (arith, arity, arity_small s s_within);
+              row_is = row_is;
+              room = new_fits;
+              new_shared = new_is_shared;
+            }
+
+        -- and is in its place then
+        pub put_shown : (p : Arrays) (k : ℕ) → ((q : Placing a s row) → Shows q.ts q.ls (placed q.ts q.ls q.reached q.middle).state p × (k ≡ (placed q.ts q.ls q.reached q.middle).number)) → Shows ts ls put.state p × (k ≡ put.number)
+        unfolding placing
+        put_shown p k h = h placing
 
     module _ (p : Arrays) (k : ℕ) (shown : Shows ts ls put.state p) (k-is : k ≡ put.number) where
       -- the number of the middle term fits
@@ -278,7 +283,7 @@ module _ {a : Arrays} (run : OnRun a) where
           omega (arith, shown'.count, ap (λ (z : State). length z.graph) (tied_new half t k B n), both_edges)
 
       -- what the code hands out is the middle step
-      pub middle_outcome : (r : Arrays) → r.stuck ≡ false → Shows ts ls (tied (tied put.state s k A) t k B) r → Outcome ts ls (middle_from ts ls st s t) r
+      pub middle_outcome : (r : Arrays) → Shows ts ls (tied (tied put.state s k A) t k B) r → Reaches ts ls (middle_from ts ls st s t) r
       unfolding with_middle tied_both
-      middle_outcome r free whole =
-          inr (free, (with_middle ts ls st s t terms, middle_taken, subst (λ (x : ℕ). Shows ts ls (tied (tied put.state s x A) t x B) r) k-is whole))
+      middle_outcome r whole =
+          (with_middle ts ls st s t terms, middle_taken, subst (λ (x : ℕ). Shows ts ls (tied (tied put.state s x A) t x B) r) k-is whole)

@@ -1,8 +1,8 @@
 -- The test that the search makes of a pair passes where a derived step can be taken on it: so it finds the first such pair.
+use Rattle.std.proofs.Common.{Some, None}
 use mathlib.Core.Bool.{Bool, true, false, cond, not, ◌&&◌}
-use mathlib.Core.List.{List, ◌++◌, map, map-append, Memᴰ}
-use mathlib.Core.Logic.{inl, inr, ⊎_elim}
-use mathlib.Core.Option.{some, none}
+use mathlib.Core.List.{List, [], ◌++◌, map, map-append, Memᴰ}
+use mathlib.Core.Logic.{⊎_elim}
 use mathlib.Core.Path.{◌≡◌, sym, ap, ap₂, subst, ◌∙◌}
 use Prim.Native.Nat.{ℕ, ◌+◌, ◌-◌, ◌≤◌, ◌<◌}
 use native.Mathlib.Omega.{arith}
@@ -11,9 +11,9 @@ use lib.Dec.{T, eqb, eqb→eq}
 use lib.ListN.{length, get_or, take, replicate, length-map, get_or-map, get_or-append}
 use Rattle.tables.specs.Words.{pair}
 use Rattle.tables.specs.Terms.{Term, term_at, no_term}
-use Rattle.tables.specs.LiteralTable.{Literal}
+use Rattle.tables.specs.declared.Literal.{Literal}
 use Rattle.tables.specs.Colours.{is_in_use}
-use Rattle.tables.proofs.Words.{and_left, and_right, and_both, passed, passes, by_test, below_or_is, below_or_not, mem_get_d}
+use Rattle.tables.proofs.Words.{and_left, and_right, and_both, passed, passes, by_test, below_or_is, mem_get_d}
 use Rattle.tables.proofs.Terms.{map_agree}
 use Rattle.tables.proofs.Filled.{filled_at}
 use Rattle.closure.specs.Graph.{Graph, label, joined, joined_pairwise}
@@ -21,52 +21,27 @@ use Rattle.closure.specs.Steps.{State, table_of, congruent}
 use Rattle.closure.specs.OwnRun.{derivable, first_pair}
 use Rattle.graphs.specs.Layout.{labels_of}
 use Rattle.running.specs.Shown.{padded, Shows}
-use Rattle.running.specs.Keys.{no_row, field_label, key_of, keys_of, candidate, Orderly, OneArity}
-use Rattle.running.specs.declared.Row.{Row}
+use Rattle.running.specs.Keys.{field_label, key_of, keys_of, candidate, tested, NextFrom, Orderly, OneArity}
 use Rattle.running.specs.declared.state.State.{State as Arrays}
 use Rattle.graphs.proofs.LabelArray.{label_at}
 use Rattle.running.proofs.Showing.{shown_label, shown_symbol, shown_arity, shown_row, shown_in_use, shown_arguments, given_within}
 use Rattle.running.proofs.Agreeing.{joined_labels}
-use Rattle.running.proofs.FirstPair.{Before, no_pair, first_pair_is}
+use Rattle.running.proofs.FirstPair.{no_pair, first_pair_is}
 use Rattle.running.proofs.Candidates.{is_candidate, candidate_parts}
 
 -- ---- passing over pairs in their order
 
--- no pair before that of s and t passes
-abbrev pub NoneBefore : ℕ → (ℕ → ℕ → Bool) → ℕ → ℕ → Type 0
-NoneBefore n p s t = (a b : ℕ) → a < b → b < n → Before s t a b → T (p a b) → ⊥
+-- no pair of a term below s passes
+abbrev pub NoneBelow : ℕ → (ℕ → ℕ → Bool) → ℕ → Type 0
+NoneBelow n p s = (a b : ℕ) → a < b → b < n → a < s → T (p a b) → ⊥
 
--- nothing comes before the pair of 0 and 1
-pub before_start : (n : ℕ) (p : ℕ → ℕ → Bool) → NoneBefore n p 0 1
-before_start n p a b h l w = ⊎_elim (λ (x : a < 0). absurd (omega arith)) (λ x. absurd (omega (arith, x.0, x.1))) w
-
-module _ (n : ℕ) (p : ℕ → ℕ → Bool) (s from : ℕ) (none_yet : NoneBefore n p s from) where
-  -- the partners of s up to t fail
-  pub before_found : (t : ℕ) → ((k : ℕ) → from ≤ k → k < t → T (p s k) → ⊥) → NoneBefore n p s t
-  before_found t f a b h l (inl x) q = none_yet a b h l (inl x) q
-  before_found t f a b h l (inr x) q =
-      ⊎_elim
-      (λ (y : b < from). none_yet a b h l (inr (x.0, y)) q)
-      (λ (y : from ≤ b). f b y x.1 (subst (λ (k : ℕ). T (p k b)) x.0 q))
-      (below_or_not b from)
-
-  -- t fails as well
-  pub before_past : (t : ℕ) → ((k : ℕ) → from ≤ k → k < t → T (p s k) → ⊥) → (T (p s t) → ⊥) → NoneBefore n p s (t + 1)
-  before_past t f g a b h l (inl x) q = none_yet a b h l (inl x) q
-  before_past t f g a b h l (inr x) q =
-      ⊎_elim
-      (λ (y : b < t). before_found t f a b h l (inr (x.0, y)) q)
-      (λ (y : b ≡ t). g (subst (λ (k : ℕ). T (p s k)) y (subst (λ (k : ℕ). T (p k b)) x.0 q)))
-      (below_or_is b t (omega (arith, x.1)))
-
-  -- s has no partner at all
-  pub before_next : ((k : ℕ) → from ≤ k → k < n → T (p s k) → ⊥) → NoneBefore n p (s + 1) (s + 1 + 1)
-  before_next f a b h l (inl x) q =
-      ⊎_elim
-      (λ (y : a < s). none_yet a b h l (inl y) q)
-      (λ (y : a ≡ s). before_found n f a b h l (inr (y, l)) q)
-      (below_or_is a s (omega arith))
-  before_next f a b h l (inr x) q = absurd (omega (arith, x.0, x.1))
+-- nor does one of s
+pub none_more : (n : ℕ) (p : ℕ → ℕ → Bool) (s : ℕ) → NoneBelow n p s → ((k : ℕ) → s + 1 ≤ k → k < n → T (p s k) → ⊥) → NoneBelow n p (s + 1)
+none_more n p s f g a b h l w q =
+    ⊎_elim
+    (λ (y : a < s). f a b h l y q)
+    (λ (y : a ≡ s). g b (omega arith) l (subst (λ (k : ℕ). T (p k b)) y q))
+    (below_or_is a s (omega arith))
 
 -- ---- keys of congruent terms
 
@@ -93,13 +68,7 @@ padded_agree G xs ys f g h j =
 
 -- ---- the test of a pair
 
--- what the search tests of a pair
-abbrev pub tested : List ℕ → List ℕ → List ℕ → List ℕ → List Row → Graph → ℕ → ℕ → Bool
-tested keys symbols labels arities rows G a b =
-    candidate keys symbols labels a b &&
-    joined_pairwise G (take (get_or arities a 0) (get_or rows a no_row).args) (take (get_or arities a 0) (get_or rows b no_row).args)
-
-module _ (ts : List Term) (ls : List Literal) (st : State) (s : Arrays) (shows : Shows ts ls st s) (orderly : Orderly s.rows s.arities) (given : ℕ) (all : given ≡ length ts) (few : given ≤ 256) (keys : List ℕ) (keys-are : keys ≡ keys_of given s.vertices s.symbols s.rows s.labels) where
+module _ (ts : List Term) (ls : List Literal) (st : State) (s : Arrays) (shows : Shows ts ls st s) (orderly : Orderly s) (given : ℕ) (all : given ≡ length ts) (few : given ≤ 256) (keys : List ℕ) (keys-are : keys ≡ keys_of given s) where
   abbrev arguments : ℕ → List ℕ
   arguments v = (term_at (table_of ts st) v).arguments
 
@@ -113,8 +82,8 @@ module _ (ts : List Term) (ls : List Literal) (st : State) (s : Arrays) (shows :
   arguments_within v l a m =
       let r = mem_get_d 0 m in
       let small : length (arguments v) ≤ 4 = omega (arith, orderly.arities v (omega arith), shown_arity ts ls st s shows v (in_table v l)) in
-      let e : get_or (get_or s.rows v no_row).args r.0 0 ≡ a =
-      ap (λ (row : Row). get_or row.args r.0 0) (shown_row ts ls st s shows v (in_table v l)) ∙
+      let e : get_or (get_or s.rows v []) r.0 0 ≡ a =
+      ap (λ (row : List ℕ). get_or row r.0 0) (shown_row ts ls st s shows v (in_table v l)) ∙
       get_or-append (arguments v) (replicate (4 - length (arguments v)) 0) 0 r.0 r.1 ∙ r.2 in
       subst (λ (k : ℕ). k < 511) e ((orderly.rows v (omega arith)).1 r.0 (omega (arith, r.1)))
 
@@ -123,10 +92,10 @@ module _ (ts : List Term) (ls : List Literal) (st : State) (s : Arrays) (shows :
   unfolding keys_of
   key_at v l =
       ap (λ (ks : List ℕ). get_or ks v 0) keys-are ∙
-      filled_at (λ t. cond (get_or s.vertices t false) (key_of s.labels (get_or s.symbols t 0) (get_or s.rows t no_row).args + 1) 0) 256 0 given v 0 l few ∙
+      filled_at (λ t. cond (get_or s.vertices t false) (key_of s.labels (get_or s.symbols t 0) (get_or s.rows t []) + 1) 0) 256 0 given v 0 l few ∙
       ap₂ (λ (b : Bool) (k : ℕ). cond b (k + 1) 0) (shown_in_use ts ls st s shows v (omega arith))
-      (ap (λ (labels : List ℕ). key_of labels (get_or s.symbols v 0) (get_or s.rows v no_row).args) shows.labels ∙
-      ap₂ (λ (f : ℕ) (row : Row). key_of (labels_of st.graph) f row.args) (shown_symbol ts ls st s shows v (in_table v l)) (shown_row ts ls st s shows v (in_table v l)))
+      (ap (λ (labels : List ℕ). key_of labels (get_or s.symbols v 0) (get_or s.rows v [])) shows.labels ∙
+      ap₂ (λ (f : ℕ) (row : List ℕ). key_of (labels_of st.graph) f row) (shown_symbol ts ls st s shows v (in_table v l)) (shown_row ts ls st s shows v (in_table v l)))
 
   -- a term without a key is not in use
   keyed : (v : ℕ) → v < given → (get_or keys v 0 ≡ 0 → ⊥) → T (is_in_use ts ls v)
@@ -146,7 +115,7 @@ module _ (ts : List Term) (ls : List Literal) (st : State) (s : Arrays) (shows :
       sym (ap (λ (t : Term). length t.arguments) (given_term b l))
 
   -- the rows of two terms with as many arguments say whether these are joined
-  rows_joined : (a b : ℕ) → a < given → b < given → length (arguments a) ≡ length (arguments b) → joined_pairwise st.graph (take (get_or s.arities a 0) (get_or s.rows a no_row).args) (take (get_or s.arities a 0) (get_or s.rows b no_row).args) ≡ joined_pairwise st.graph (arguments a) (arguments b)
+  rows_joined : (a b : ℕ) → a < given → b < given → length (arguments a) ≡ length (arguments b) → joined_pairwise st.graph (take (get_or s.arities a 0) (get_or s.rows a [])) (take (get_or s.arities a 0) (get_or s.rows b [])) ≡ joined_pairwise st.graph (arguments a) (arguments b)
   rows_joined a b h l e =
       let n = shown_arity ts ls st s shows a (in_table a h) in
       ap₂ (joined_pairwise st.graph)
@@ -155,7 +124,7 @@ module _ (ts : List Term) (ls : List Literal) (st : State) (s : Arrays) (shows :
 
   -- the test of the search, over the arrays
   abbrev pub test : ℕ → ℕ → Bool
-  test = tested keys s.symbols s.labels s.arities s.rows st.graph
+  test = tested keys s st.graph
 
   module _ (a b : ℕ) (h : a < given) (l : b < given) where
     abbrev G : Graph
@@ -192,8 +161,8 @@ module _ (ts : List Term) (ls : List Literal) (st : State) (s : Arrays) (shows :
         let shown-apart : not (eqb (get_or s.labels a 0) (get_or s.labels b 0)) ≡ true =
         ap₂ (λ (x y : ℕ). not (eqb x y)) (shown_label ts ls st s shows a (omega arith)) (shown_label ts ls st s shows b (omega arith)) ∙
         passed apart (and_right (alike && args && used) apart d) in
-        and_both (candidate keys s.symbols s.labels a b) _
-        (is_candidate keys s.symbols s.labels a b (λ z. omega arith) one_key
+        and_both (candidate keys s a b) _
+        (is_candidate keys s a b (λ z. omega arith) one_key
         (ap₂ (λ (x y : Bool). x && y) (eq-eqb (get_or s.symbols a 0) (get_or s.symbols b 0) shown-symbols) shown-apart))
         (subst T (sym (rows_joined a b h l len)) joined-args)
 
@@ -205,9 +174,9 @@ module _ (ts : List Term) (ls : List Literal) (st : State) (s : Arrays) (shows :
         let args = joined_pairwise G (arguments a) (arguments b) in
         let used = is_in_use ts ls a && is_in_use ts ls b in
         let apart = not (eqb (label G a) (label G b)) in
-        let found = candidate keys s.symbols s.labels a b in
+        let found = candidate keys s a b in
         let is = and_left found _ w in
-        let parts = candidate_parts keys s.symbols s.labels a b is in
+        let parts = candidate_parts keys s a b is in
         let symbols : (term_at (table_of ts st) a).symbol ≡ (term_at (table_of ts st) b).symbol =
         sym (shown_symbol ts ls st s shows a (in_table a h)) ∙ parts.2 ∙ shown_symbol ts ls st s shows b (in_table b l) in
         let joined-args : T args = subst T (rows_joined a b h l (one_arity one a b h l symbols)) (and_right found _ w) in
@@ -220,35 +189,25 @@ module _ (ts : List Term) (ls : List Literal) (st : State) (s : Arrays) (shows :
         (and_both (alike && args) used (and_both alike args (passes alike (eq-eqb _ _ symbols)) joined-args) both) labels_apart
 
   -- the pair that is found is the first
-  pub found_first : OneArity ts → (a b : ℕ) → a < b → b < given → T (test a b) → NoneBefore given test a b → some (pair a b) ≡ first_pair ts ls st
+  pub found_first : OneArity ts → (a b : ℕ) → NextFrom (test a) (a + 1) given (Some b) → NoneBelow given test a → Some (pair a b) ≡ first_pair ts ls st
   unfolding first_pair
-  found_first one a b h l w none_yet =
+  found_first one a b (h, l, w, none_here) none_yet =
       sym
-      (first_pair_is (length ts) (derivable ts ls st) a b h (omega arith) (tested_derivable a b (omega arith) l one w)
-      (λ x y k m before d. none_yet x y k (omega arith) before (derivable_tested x y (omega arith) (omega arith) d)))
+      (first_pair_is (length ts) (derivable ts ls st) a b (omega arith) (omega arith) (tested_derivable a b (omega arith) l one w)
+      (λ x y k m before d. let q = derivable_tested x y (omega arith) (omega arith) d in
+      ⊎_elim
+      (λ (z : x < a). none_yet x y k (omega arith) z q)
+      (λ z. none_here y (omega (arith, z.0)) z.1 (subst (λ (i : ℕ). T (test i y)) z.0 q))
+      before))
 
   -- nothing is found where there is none
-  pub found_none : (a b : ℕ) → given ≤ a → NoneBefore given test a b → none ≡ first_pair ts ls st
+  pub found_none : (a : ℕ) → given ≤ a → NoneBelow given test a → None ≡ first_pair ts ls st
   unfolding first_pair
-  found_none a b h none_yet =
+  found_none a h none_yet =
       sym
       (no_pair (length ts) (derivable ts ls st)
-      (λ x y k m d. none_yet x y k (omega arith) (inl (omega arith)) (derivable_tested x y (omega arith) (omega arith) d)))
+      (λ x y k m d. none_yet x y k (omega arith) (omega arith) (derivable_tested x y (omega arith) (omega arith) d)))
 
--- ---- the parts of the test
-
-module _ (keys symbols labels arities : List ℕ) (rows : List Row) (G : Graph) (a b : ℕ) where
-  -- the second part of the test
-  abbrev pub rows_agree : Bool
-  rows_agree = joined_pairwise G (take (get_or arities a 0) (get_or rows a no_row).args) (take (get_or arities a 0) (get_or rows b no_row).args)
-
-  pub tested_candidate : T (tested keys symbols labels arities rows G a b) → T (candidate keys symbols labels a b)
-  tested_candidate w = and_left (candidate keys symbols labels a b) rows_agree w
-
-  -- rows that do not agree refuse the pair
-  pub rows_refuse : (r : Bool) → r ≡ rows_agree → r ≡ false → T (tested keys symbols labels arities rows G a b) → ⊥
-  rows_refuse r e f w = subst T (sym e ∙ f) (and_right (candidate keys symbols labels a b) rows_agree w)
-
-  -- a candidate whose rows agree passes
-  pub rows_accept : (r : Bool) → r ≡ rows_agree → r ≡ true → T (candidate keys symbols labels a b) → T (tested keys symbols labels arities rows G a b)
-  rows_accept r e f w = and_both (candidate keys symbols labels a b) rows_agree w (passes rows_agree (sym e ∙ f))
+-- a pair that passes is a candidate
+pub tested_candidate : (keys : List ℕ) (st : Arrays) (G : Graph) (a b : ℕ) → T (tested keys st G a b) → T (candidate keys st a b)
+tested_candidate keys st G a b w = and_left (candidate keys st a b) _ w

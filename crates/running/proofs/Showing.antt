@@ -11,7 +11,7 @@ use lib.ListN.{length, get_or, take, set, replicate, length-append, get_or-appen
 use lib.Seq.{get_or_at, take-append_seam}
 use Rattle.tables.specs.Terms.{Term, no_term, term_at}
 use Rattle.tables.specs.Parts.{LowerArguments}
-use Rattle.tables.specs.LiteralTable.{Literal}
+use Rattle.tables.specs.declared.Literal.{Literal}
 use Rattle.tables.specs.declared.Side.{Side}
 use Rattle.tables.specs.Colours.{is_in_use, shared}
 use Rattle.tables.specs.Read.{filled, colour_number}
@@ -24,12 +24,10 @@ use Rattle.closure.specs.declared.Edge.{Edge}
 use Rattle.closure.specs.declared.EdgeKind.{EdgeKind}
 use Rattle.closure.specs.Steps.{State, table_of, vertex, with_edge}
 use Rattle.graphs.specs.Layout.{edges_of, labels_of}
-use Rattle.running.specs.Shown.{padded, row_for, column, Shows, with_term, regraphed, halted}
-use Rattle.running.specs.Keys.{no_row}
-use Rattle.running.specs.declared.Row.{Row}
+use Rattle.running.specs.Shown.{padded, column, Shows, with_term}
 use Rattle.graphs.specs.declared.graph.Graph.{Graph as Kept}
 use Rattle.running.specs.declared.state.State.{State as Arrays}
-use Rattle.graphs.proofs.LabelArray.{label_at, labels_length, labels_edge}
+use Rattle.graphs.proofs.LabelArray.{label_at, labels_edge}
 
 -- the rule by which one edge changes a label
 abbrev pub relabelling : List ℕ → ℕ → ℕ → ℕ → ℕ
@@ -47,18 +45,14 @@ module _ (ts : List Term) (ls : List Literal) (st : State) (s : Arrays) (h : Sho
   pub shown_arity : (v : ℕ) → v < length (table_of ts st) → get_or s.arities v 0 ≡ length (term_at (table_of ts st) v).arguments
   shown_arity v l = ap (λ (xs : List ℕ). get_or xs v 0) h.arities ∙ filled_at (λ k. length (term_at (table_of ts st) k).arguments) 511 0 (length (table_of ts st)) v 0 l h.within
 
-  pub shown_row : (v : ℕ) → v < length (table_of ts st) → get_or s.rows v no_row ≡ row_for (term_at (table_of ts st) v).arguments
-  shown_row v l = ap (λ (xs : List Row). get_or xs v no_row) h.rows ∙ filled_at (λ k. row_for (term_at (table_of ts st) k).arguments) 511 (row_for []) (length (table_of ts st)) v no_row l h.within
+  pub shown_row : (v : ℕ) → v < length (table_of ts st) → get_or s.rows v [] ≡ padded (term_at (table_of ts st) v).arguments
+  shown_row v l = ap (λ (xs : List (List ℕ)). get_or xs v []) h.rows ∙ filled_at (λ k. padded (term_at (table_of ts st) k).arguments) 511 (padded []) (length (table_of ts st)) v [] l h.within
 
   pub shown_colour : (v : ℕ) → v < length (table_of ts st) → get_or s.colours v 0 ≡ colour_number ts ls (table_of ts st) v
   shown_colour v l = ap (λ (xs : List ℕ). get_or xs v 0) h.colours ∙ filled_at (colour_number ts ls (table_of ts st)) 511 0 (length (table_of ts st)) v 0 l h.within
 
   pub shown_vertex : (v : ℕ) → v < length (table_of ts st) → get_or s.vertices v false ≡ vertex ts ls st v
   shown_vertex v l = ap (λ (xs : List Bool). get_or xs v false) h.vertices ∙ filled_at (vertex ts ls st) 511 false (length (table_of ts st)) v false l h.within
-
-  -- there are 511 labels
-  pub shown_length : length s.labels ≡ 511
-  shown_length = ap length h.labels ∙ labels_length st.graph
 
   -- a given term is a term of the table
   pub given_within : (v : ℕ) → v < length ts → v < length (table_of ts st)
@@ -69,11 +63,11 @@ module _ (ts : List Term) (ls : List Literal) (st : State) (s : Arrays) (h : Sho
   shown_in_use v l = shown_vertex v (given_within v l) ∙ vertex_given ts ls st v l
 
   -- the used fields of a term's row are its arguments
-  pub shown_arguments : (v : ℕ) → v < length (table_of ts st) → (n : ℕ) → n ≡ length (term_at (table_of ts st) v).arguments → take n (get_or s.rows v no_row).args ≡ (term_at (table_of ts st) v).arguments
+  pub shown_arguments : (v : ℕ) → v < length (table_of ts st) → (n : ℕ) → n ≡ length (term_at (table_of ts st) v).arguments → take n (get_or s.rows v []) ≡ (term_at (table_of ts st) v).arguments
   unfolding padded
   shown_arguments v l n e =
       let xs = (term_at (table_of ts st) v).arguments in
-      ap₂ (λ (k : ℕ) (r : Row). take k r.args) e (shown_row v l) ∙ take-append_seam xs (replicate (4 - length xs) 0)
+      ap₂ (λ (k : ℕ) (r : List ℕ). take k r) e (shown_row v l) ∙ take-append_seam xs (replicate (4 - length xs) 0)
 
   -- the labels as the rule changes them are those of one edge more
   pub shown_labels : (e : Edge) → e.left < 511 → e.right < 511 → map (relabelling s.labels e.left e.right) s.labels ≡ labels_of (e ∷ st.graph)
@@ -83,7 +77,7 @@ module _ (ts : List Term) (ls : List Literal) (st : State) (s : Arrays) (h : Sho
       labels_edge e st.graph
 
   -- one edge more
-  pub shows_edge : (left right : ℕ) (colour : Side) (kind : EdgeKind) (g : Kept) (labels : List ℕ) → left < 511 → right < 511 → edges_of g ≡ record { left = left; right = right; colour = colour; kind = kind } ∷ edges_of s.graph → g.count ≡ s.graph.count + 1 → labels ≡ map (relabelling s.labels left right) s.labels → Shows ts ls (with_edge st left right colour kind) (regraphed s g labels)
+  pub shows_edge : (left right : ℕ) (colour : Side) (kind : EdgeKind) (g : Kept) (labels : List ℕ) → left < 511 → right < 511 → edges_of g ≡ record { left = left; right = right; colour = colour; kind = kind } ∷ edges_of s.graph → g.count ≡ s.graph.count + 1 → labels ≡ map (relabelling s.labels left right) s.labels → Shows ts ls (with_edge st left right colour kind) (record s { graph = g; labels = labels })
   shows_edge left right colour kind g labels l r edges count new =
       let e : Edge = record { left = left; right = right; colour = colour; kind = kind } in
       record {
@@ -98,11 +92,6 @@ module _ (ts : List Term) (ls : List Literal) (st : State) (s : Arrays) (h : Sho
         count = count ∙ add-one s.graph.count ∙ ap suc h.count;
         labels = new ∙ shown_labels e l r;
       }
-
--- whether the run is stuck is no part of what is shown
-pub shows_halted : (ts : List Term) (ls : List Literal) (st : State) (s : Arrays) (b : Bool) → Shows ts ls st s → Shows ts ls st (halted s b)
-shows_halted ts ls st s b h =
-    record { within = h.within; terms = h.terms; symbols = h.symbols; arities = h.arities; rows = h.rows; colours = h.colours; vertices = h.vertices; edges = h.edges; count = h.count; labels = h.labels }
 
 -- ---- one term more
 
@@ -143,18 +132,17 @@ module _ (ts : List Term) (ls : List Literal) (st : State) (m : Term) where
   vertex_new = sym (added_passes (length (table_of ts st)) (omega (arith, length-append ts st.added)) (omega (arith, length_more)))
 
 -- the arrays with one term more at a place
-abbrev pub enlarged : Arrays → ℕ → ℕ → Row → ℕ → Arrays
+abbrev pub enlarged : Arrays → ℕ → ℕ → List ℕ → ℕ → Arrays
 enlarged s symbol arity row n =
-    record { terms = n + 1; symbols = set s.symbols n symbol; arities = set s.arities n arity; rows = set s.rows n row; colours = set s.colours n 3; vertices = set s.vertices n true; graph = s.graph; labels = s.labels; stuck = s.stuck }
+    record s { terms = n + 1; symbols = set s.symbols n symbol; arities = set s.arities n arity; rows = set s.rows n row; colours = set s.colours n 3; vertices = set s.vertices n true }
 
-pub shows_term : (ts : List Term) (ls : List Literal) (st : State) (s : Arrays) (m : Term) (symbol arity : ℕ) (row : Row) → s.terms < 511 → Shows ts ls st s → LowerArguments (table_of ts st) → m.symbol ≡ symbol → length m.arguments ≡ arity → row.args ≡ padded m.arguments → T (shared ts ls (table_of ts st ++ (m ∷ [])) (length (table_of ts st))) → Shows ts ls (with_term st m) (enlarged s symbol arity row s.terms)
+pub shows_term : (ts : List Term) (ls : List Literal) (st : State) (s : Arrays) (m : Term) (symbol arity : ℕ) (row : List ℕ) → s.terms < 511 → Shows ts ls st s → LowerArguments (table_of ts st) → m.symbol ≡ symbol → length m.arguments ≡ arity → row ≡ padded m.arguments → T (shared ts ls (table_of ts st ++ (m ∷ [])) (length (table_of ts st))) → Shows ts ls (with_term st m) (enlarged s symbol arity row s.terms)
 shows_term ts ls st s m symbol arity row small h lower symbol_is arity_is row_is shared-is =
     let n = length (table_of ts st) in
     let more = table_of ts (with_term st m) in
     let fits : n < 511 = omega (arith, h.terms) in
     let before : (k : ℕ) → k < n → term_at (table_of ts st) k ≡ term_at more k = term_before ts ls st m in
     let new = term_new ts ls st m in
-    let row_new : row ≡ row_for m.arguments = λ i. record { args = row_is i } in
     record {
       within = omega (arith, length_more ts ls st m);
       terms = ap (λ (k : ℕ). k + 1) h.terms ∙ sym (length_more ts ls st m);
@@ -165,8 +153,8 @@ shows_term ts ls st s m symbol arity row small h lower symbol_is arity_is row_is
           ap₂ (λ (xs : List ℕ) (k : ℕ). set xs k arity) h.arities h.terms ∙
           column_more ts ls st m 0 _ (λ v. length (term_at more v).arguments) arity fits (λ k l. ap (λ (t : Term). length t.arguments) (before k l)) (sym arity_is ∙ ap (λ (t : Term). length t.arguments) new);
       rows =
-          ap₂ (λ (xs : List Row) (k : ℕ). set xs k row) h.rows h.terms ∙
-          column_more ts ls st m (row_for []) _ (λ v. row_for (term_at more v).arguments) row fits (λ k l. ap (λ (t : Term). row_for t.arguments) (before k l)) (row_new ∙ ap (λ (t : Term). row_for t.arguments) new);
+          ap₂ (λ (xs : List (List ℕ)) (k : ℕ). set xs k row) h.rows h.terms ∙
+          column_more ts ls st m (padded []) _ (λ v. padded (term_at more v).arguments) row fits (λ k l. ap (λ (t : Term). padded t.arguments) (before k l)) (row_is ∙ ap (λ (t : Term). padded t.arguments) new);
       colours =
           ap₂ (λ (xs : List ℕ) (k : ℕ). set xs k 3) h.colours h.terms ∙
           column_more ts ls st m 0 _ (colour_number ts ls more) 3 fits

@@ -5,7 +5,7 @@ use Prim.Native.Nat.{ℕ, ◌<◌}
 use lib.Dec.{T, not_T}
 use lib.ListN.{get_or}
 use Rattle.tables.specs.Terms.{Term}
-use Rattle.tables.specs.LiteralTable.{Literal}
+use Rattle.tables.specs.declared.Literal.{Literal}
 use Rattle.tables.specs.declared.Side.{Side}
 use Rattle.closure.specs.Graph.{joined}
 use Rattle.closure.specs.declared.EdgeKind.TheVariants.{Derived as derived}

@@ -1,103 +1,78 @@
 // "the first pair (s below t, smallest s, then smallest t) among the given terms in use"
 
-ghost use Rattle.std.specs.Prelude.{List, ◌≡◌, ◌<◌, ◌≤◌, length, replicate};
+ghost use Rattle.std.specs.Prelude.{List, ◌≡◌, ◌+◌, ◌<◌, ◌≤◌, length, option_map};
+ghost use Rattle.tables.specs.Words.{pair};
 ghost use Rattle.tables.specs.Terms.{Term};
-ghost use Rattle.tables.specs.LiteralTable.{Literal};
+ghost use Rattle.tables.specs.declared.Literal.{Literal};
+ghost use Rattle.closure.specs.Graph.{Graph};
 ghost use Rattle.closure.specs.Steps.{State as Reached};
 ghost use Rattle.closure.specs.OwnRun.{first_pair};
+ghost use Rattle.graphs.specs.Layout.{labels_of};
 ghost use Rattle.running.specs.Shown.{Shows};
-ghost use Rattle.running.specs.Keys.{EndsOf, candidate, NextFrom, pair_of, Orderly, OneArity, searched};
-ghost use Rattle.running.specs.declared.state.State.{State as Arrays};
+ghost use Rattle.running.specs.Keys.{EndsOf, tested, NextFrom, Orderly, OneArity};
 
-use super::{Row, congruence};
+use super::congruence::congruent;
+use super::state::State;
+use tables::TERMS;
 
-// A number that a search finds.
-#[derive(Clone, Copy)]
-pub enum Next {
-    At(usize),
-    Nothing,
-}
-
-// Two terms that a search finds.
-#[derive(Clone, Copy)]
-pub enum Pair {
-    Of(usize, usize),
-    Nothing,
-}
+// A prime, so that few keys have one residue.
+const RESIDUES: usize = 1021;
 
 // Keys that are alike have one residue, so a search among them may stop behind the last term of its residue: one more than that term's number.
-// They are written into an array of zeros that is lent.
-fn ends(keys: &[u64; 256], given: usize, all: &mut [u16; 1021])
-    requires { (given ≤ 256) × (all.old ≡ replicate 1021 0) }
-    ensures { EndsOf keys.now given all.new }
+fn ends(keys: &[u64; TERMS], given: usize) -> [u16; RESIDUES]
+    requires { given ≤ 256 }
+    ensures { EndsOf keys.now given result }
 {
-    let mut t = 0;
-    while t < given {
-        let residue = (keys[t] % 1021) as usize;
-        t += 1;
-        all[residue] = t as u16;
+    let mut all = [0; RESIDUES];
+    for t in 0..given {
+        all[keys[t] as usize % RESIDUES] = t as u16 + 1;
     }
+    all
 }
 
-// The next term from a place on that may be a partner of s: the rows are not looked at.
-fn partner(
-    keys: &[u64; 256],
-    ends: &[u16; 1021],
-    symbols: &[u16; 511],
-    labels: &[u16; 511],
-    given: usize,
-    s: usize,
-    from: usize,
-) -> Next
-    requires { (given ≤ 256) × (s < given) × EndsOf keys.now given ends.now }
-    ensures { NextFrom (candidate keys.now symbols.now labels.now s) from given result }
-{
-    let key = keys[s];
-    let symbol = symbols[s];
-    let label = labels[s];
-    if key == 0 {
-        return Next::Nothing;
+impl State {
+    // Whether s and t make a pair. The key is a filter, so the rows are looked at for few of them.
+    #[tactic(auto, unfolding(crate::specs::Keys::candidate))]
+    fn pairs(&self, keys: &[u64; TERMS], s: usize, t: usize) -> bool
+        requires { (s < 256) × (t < 256) × Orderly self.now }
+        ensures { (G : Graph) → self.now.labels ≡ labels_of G → result ≡ tested keys.now self.now G s t }
+    {
+        keys[s] != 0
+            && keys[s] == keys[t]
+            && (self.symbols[s] == self.symbols[t]) & (self.labels[s] != self.labels[t])
+            && congruent(self.rows, &self.labels, self.arities[s] as usize, s, t)
     }
-    let end = ends[(key % 1021) as usize] as usize;
-    let mut t = from;
-    while t < end {
-        if key == keys[t] && (symbol == symbols[t]) & (label != labels[t]) {
-            return Next::At(t);
+
+    // The first term behind s that makes a pair with it.
+    fn partner(
+        &self,
+        keys: &[u64; TERMS],
+        ends: &[u16; RESIDUES],
+        given: usize,
+        s: usize,
+    ) -> Option<usize>
+        requires { (given ≤ 256) × (s < given) × EndsOf keys.now given ends.now × Orderly self.now }
+        ensures { (G : Graph) → self.now.labels ≡ labels_of G → NextFrom (tested keys.now self.now G s) (s + 1) given result }
+    {
+        if keys[s] == 0 {
+            return None;
         }
-        t += 1;
+        let end = ends[keys[s] as usize % RESIDUES] as usize;
+        (s + 1..end).find(|&t| self.pairs(keys, s, t))
     }
-    Next::Nothing
-}
 
-// The arrays are lent. The key is a filter only, so the rows are copied for few pairs; behind a pair that they refuse the search goes on.
-pub fn first_pair<'a>(
-    labels: &'a [u16; 511],
-    symbols: &'a [u16; 511],
-    vertices: &'a [bool; 511],
-    arities: &'a [u8; 511],
-    rows: [Row; 511],
-    given: usize,
-) -> Pair
-    requires { (given ≤ 256) × Orderly rows arities.now }
-    ensures { (ts : List Term) (ls : List Literal) (reached : Reached) (st : Arrays) → Shows ts ls reached (searched st labels.now symbols.now vertices.now arities.now rows) → given ≡ length ts → OneArity ts → pair_of result ≡ first_pair ts ls reached }
-{
-    let mut all = [0u64; 256];
-    congruence::keys(given, vertices, symbols, rows, labels, &mut all);
-    let mut last = [0u16; 1021];
-    ends(&all, given, &mut last);
-    let mut s = 0;
-    let mut from = 1;
-    while s < given {
-        let found = partner(&all, &last, symbols, labels, given, s, from);
-        if let Next::At(t) = found {
-            if congruence::congruent(rows, labels, arities[s] as usize, s, t) {
-                return Pair::Of(s, t);
+    // The keys do not change while a pair is looked for, so they are made once.
+    pub(crate) fn first_pair(&self, given: usize) -> Option<(usize, usize)>
+        requires { (given ≤ 256) × Orderly self.now }
+        ensures { (ts : List Term) (ls : List Literal) (reached : Reached) → Shows ts ls reached self.now → given ≡ length ts → OneArity ts → option_map (λ p. pair p.0 p.1) result ≡ first_pair ts ls reached }
+    {
+        let keys = self.keys(given);
+        let ends = ends(&keys, given);
+        for s in 0..given {
+            if let Some(t) = self.partner(&keys, &ends, given, s) {
+                return Some((s, t));
             }
-            from = t + 1;
-        } else {
-            s += 1;
-            from = s + 1;
         }
+        None
     }
-    Pair::Nothing
 }

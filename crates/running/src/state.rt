@@ -1,19 +1,49 @@
 // What a run has made so far: the table of given and added terms, the graph, and the label of each term.
 
-use super::Row;
-use graphs::graph::Graph;
+ghost use Rattle.std.specs.Prelude.{List, ◌<◌};
+ghost use Rattle.tables.specs.Terms.{Term};
+ghost use Rattle.tables.specs.declared.Literal.{Literal};
+ghost use Rattle.closure.specs.Steps.{State as Reached, with_edge};
+ghost use Rattle.running.specs.Shown.{Shows};
 
-// The table has the given terms first and the added ones after them. A given term not in use is no vertex. A run is stuck at row 8: "a middle term is
-// needed and a parent path has no shared term". That is a field of the state, since a struct around the state would copy it once more on its way out.
+use closure::{Edge, EdgeKind};
+use graphs::graph::Graph;
+use graphs::labels;
+use tables::Side;
+
+// The table has the given terms first and the added ones after them. A given term not in use is no vertex. What is said of the terms stands in an array
+// for each thing said, and not in one of terms: labels change and keys are compared along one array alone, which the machine does for many places at a
+// time, and `Shows` says of each array what it holds.
 #[derive(Clone, Copy)]
 pub struct State {
     pub terms: usize,
     pub symbols: [u16; 511],
     pub arities: [u8; 511],
-    pub rows: [Row; 511],
+    pub rows: [[u16; 4]; 511],
     pub colours: [u8; 511],
     pub vertices: [bool; 511],
     pub graph: Graph,
     pub labels: [u16; 511],
-    pub stuck: bool,
+}
+
+// Row 8: "a middle term is needed and a parent path has no shared term".
+#[derive(Clone, Copy, Debug, PartialEq, Eq)]
+pub struct Stuck;
+
+impl State {
+    // One edge more, in the graph and in the labels.
+    pub(crate) fn join(&mut self, left: usize, right: usize, colour: Side, kind: EdgeKind)
+        requires { (left < 511) × (right < 511) × (self.old.graph.count < 510) }
+        ensures { (ts : List Term) (ls : List Literal) (st : Reached) → Shows ts ls st self.old → Shows ts ls (with_edge st left right colour kind) self.new }
+    {
+        let from = self.labels[right];
+        let to = self.labels[left];
+        labels::relabel(&mut self.labels, from, to);
+        self.graph = self.graph.with_edge(Edge {
+            left: left as u16,
+            right: right as u16,
+            colour,
+            kind,
+        });
+    }
 }

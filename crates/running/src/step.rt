@@ -1,210 +1,152 @@
 // One derived step of the library's own run.
 
-ghost use Rattle.std.specs.Prelude.{List, ◌≡◌, ℕ, ◌+◌, ◌≤◌, ◌<◌, T, eqb, length, get_or, take};
-ghost use Rattle.tables.specs.Words.{same, first_of, pair};
+ghost use Rattle.std.specs.Prelude.{IsTrue, ◌↔◌, List, ◌≡◌, ◌%◌, ◌<◌, T, eqb, leb, get_or, option_map, None, []};
+ghost use Rattle.std.specs.List.{All, find};
+ghost use Rattle.tables.specs.Words.{pair};
 ghost use Rattle.tables.specs.Terms.{Term};
-ghost use Rattle.tables.specs.LiteralTable.{Literal};
-ghost use Rattle.closure.specs.Steps.{State as Reached, table_of, vertex_equal, tied as tiedIn};
+ghost use Rattle.tables.specs.declared.Literal.{Literal};
+ghost use Rattle.closure.specs.Steps.{State as Reached, vertex_equal, placed, tied};
 ghost use Rattle.closure.specs.OwnRun.{first_shared, middle_from, derivable, derived_on};
-ghost use Rattle.running.specs.Shown.{Shows, regraphed};
-ghost use Rattle.running.specs.Keys.{searched};
-ghost use Rattle.running.specs.Stepping.{met_of, Choosing, ChoiceOf, number_or, Placing, OnRun, Apart, colouring, Outcome};
-ghost use Rattle.running.specs.declared.state.State.{State as Arrays};
+ghost use Rattle.running.specs.Shown.{padded, Shows};
+ghost use Rattle.running.specs.Stepping.{Choosing, Placing, Alike, OnRun, Apart, colouring, Outcome};
 
-use super::Row;
-use super::edge::joined_on;
-use super::state::State;
+use super::state::{State, Stuck};
 use closure::EdgeKind;
-use graphs::graph::Graph;
-use graphs::rooting::Rooting;
-use graphs::{paths, rooting};
+use graphs::paths::Trail;
+use graphs::rooting::{self, Rooting};
 use tables::Side;
 
-// A vertex that a search meets.
-#[derive(Clone, Copy)]
-pub enum Met {
-    At(u16),
-    Nothing,
-}
+// A term's colours are one number: 1 A-colourable, 2 B-colourable, 3 shared, which is both, 0 neither.
+const SHARED: u8 = 3;
 
-// "the first met on the parent path from the argument of the end that is A-colourable only": the first shared stop.
-fn first_shared(colours: &[u8; 511], stops: &[u16; 511], hops: usize) -> Met
-    requires { (hops ≤ 510) × (hops < length stops.now) × ((i : ℕ) → i ≤ hops → get_or stops.now i 0 < 511) }
-    ensures { met_of result ≡ first_of (λ v. eqb (get_or colours.now v 0) 3) (take (hops + 1) stops.now) }
+// Whether a term of these colours is A-colourable.
+fn in_a(colour: u8) -> bool
+    ensures { result ≡ eqb (colour % 2) 1 }
 {
-    let mut i = 0;
-    while i <= hops {
-        let stop = stops[i];
-        if colours[stop as usize] == 3 {
-            return Met::At(stop);
-        }
-        i += 1;
-    }
-    Met::Nothing
+    colour % 2 == 1
 }
 
-// A shared term for each argument, or none where a parent path has no shared term.
-#[derive(Clone, Copy)]
-pub struct Choice {
-    pub stuck: bool,
-    pub row: Row,
-}
-
-// Argument by argument, the first shared term on its parent path. The paths are laid in the same two arrays, one after the other.
-fn chosen(colours: &[u8; 511], r: Rooting, of_s: Row, of_t: Row, arity: usize) -> Choice
-    requires { Choosing colours.now r.toward r.by r.rank of_s of_t arity }
-    ensures { (w : Choosing colours.now r.toward r.by r.rank of_s of_t arity) → ChoiceOf (first_shared w.ts w.ls w.table w.graph w.left w.right) result }
+// Whether it is B-colourable.
+fn in_b(colour: u8) -> bool
+    ensures { result ≡ leb 2 colour }
 {
-    let stops = &mut [0u16; 511];
-    let ways = &mut [0u16; 511];
-    let mut args = [0u16; 4];
-    let mut j = 0;
-    while j < arity {
-        let u = of_s.args[j];
-        let v = of_t.args[j];
-        let hops = paths::lay_path(&r.toward, &r.by, &r.rank, u, v, stops, ways);
-        let met = first_shared(colours, stops, hops);
-        let Met::At(m) = met else {
-            return Choice {
-                stuck: true,
-                row: Row { args },
-            };
-        };
-        args[j] = m;
-        j += 1;
-    }
-    Choice {
-        stuck: false,
-        row: Row { args },
-    }
-}
-
-// Whether two rows agree in all fields.
-fn same_row(a: Row, b: Row) -> bool
-    requires { (length a.args ≡ 4) × (length b.args ≡ 4) }
-    ensures { result ≡ same a.args b.args }
-{
-    let mut j = 0;
-    while j < 4 {
-        if a.args[j] != b.args[j] {
-            return false;
-        }
-        j += 1;
-    }
-    true
-}
-
-// The number of the vertex that equals the middle term of a row with the symbol and the arity of s, or the number of terms where there is none. Past the
-// arity a row holds 0, which may be term 0, so the arity is compared too. What is read is lent array by array, so that no state is copied for it.
-fn vertex_equal<'a>(
-    symbols: &'a [u16; 511],
-    arities: &'a [u8; 511],
-    vertices: &'a [bool; 511],
-    rows: [Row; 511],
-    count: usize,
-    s: u16,
-    row: Row,
-) -> usize
-    requires { (a : Arrays) × (count ≡ a.terms) × (s < 511) × Placing (searched a a.labels symbols.now vertices.now arities.now «rows») (get_or symbols.now s 0) (get_or arities.now s 0) row }
-    ensures { (a : Arrays) → count ≡ a.terms → (p : Placing (searched a a.labels symbols.now vertices.now arities.now «rows») (get_or symbols.now s 0) (get_or arities.now s 0) row) → result ≡ number_or (length (table_of p.ts p.reached)) (vertex_equal p.ts p.ls p.reached p.middle) }
-{
-    let symbol = symbols[s as usize];
-    let arity = arities[s as usize];
-    let mut v = 0;
-    while v < count {
-        if (symbols[v] == symbol) & (arities[v] == arity) & vertices[v] {
-            let other = rows[v];
-            if same_row(other, row) {
-                return v;
-            }
-        }
-        v += 1;
-    }
-    count
-}
-
-// "each of s and t not yet joined to it gets a derived edge to it": one end's part. The labels change in their place.
-fn tied(labels: &mut [u16; 511], graph: Graph, s: u16, m: u16, colour: Side) -> Graph
-    requires { (length labels.old ≡ 511) × (s < 511) × (m < 511) × ((get_or labels.old s 0 ≡ get_or labels.old m 0 → ⊥) → graph.count < 510) }
-    ensures { (ts : List Term) (ls : List Literal) (reached : Reached) (a : Arrays) → Shows ts ls reached (regraphed a graph labels.old) → Shows ts ls (tiedIn reached s m colour) (regraphed a result labels.new) }
-{
-    if labels[s as usize] == labels[m as usize] {
-        return graph;
-    }
-    joined_on(
-        labels,
-        graph,
-        s as usize,
-        m as usize,
-        colour,
-        EdgeKind::Derived,
-    )
-}
-
-// The step by a middle term, from s, which is A-colourable only, to t. "If it is not a vertex it becomes one": a shared term more. The state changes in
-// its place, since a function for each part would copy it on its way in and out.
-fn middle_step(mut st: State, s: u16, t: u16) -> State
-    requires { (run : OnRun st) × Apart run.ts run.ls run.reached s t }
-    ensures { (run : OnRun st) → Apart run.ts run.ls run.reached s t → Outcome run.ts run.ls (middle_from run.ts run.ls run.reached s t) result }
-{
-    let symbol = st.symbols[s as usize];
-    let arity = st.arities[s as usize];
-    let of_s = st.rows[s as usize];
-    let of_t = st.rows[t as usize];
-    let graph = st.graph;
-    let forest = rooting::rooted(graph, &st.labels);
-    let c = chosen(&st.colours, forest, of_s, of_t, arity as usize);
-    if c.stuck {
-        st.stuck = true;
-        return st;
-    }
-    let row = c.row;
-    let rows = st.rows;
-    let n = st.terms;
-    let at = vertex_equal(&st.symbols, &st.arities, &st.vertices, rows, n, s, row);
-    let m = at as u16;
-    if at == n {
-        st.symbols[at] = symbol;
-        st.arities[at] = arity;
-        st.rows[at] = row;
-        st.colours[at] = 3;
-        st.vertices[at] = true;
-        st.terms = at + 1;
-    }
-    let half = tied(&mut st.labels, graph, s, m, Side::A);
-    let whole = tied(&mut st.labels, half, t, m, Side::B);
-    st.graph = whole;
-    st.stuck = false;
-    st
-}
-
-// The colour of a derived edge, or that it has none.
-#[derive(Clone, Copy)]
-pub enum Colouring {
-    Of(Side),
-    Middle,
+    2 <= colour
 }
 
 // "A derived edge is B where both ends are B-colourable, else A": by the numbers of the ends' colours. Where it would be neither, it takes a middle term.
-pub fn edge_colour(of_s: u8, of_t: u8) -> Colouring
+#[tactic(auto, unfolding(crate::specs::Stepping::colouring))]
+pub(crate) fn edge_colour(of_s: u8, of_t: u8) -> Option<Side>
     ensures { result ≡ colouring of_s of_t }
 {
-    if (2 <= of_s) & (2 <= of_t) {
-        return Colouring::Of(Side::B);
+    if in_b(of_s) & in_b(of_t) {
+        Some(Side::B)
+    } else if in_a(of_s) & in_a(of_t) {
+        Some(Side::A)
+    } else {
+        None
     }
-    if (of_s % 2 == 1) & (of_t % 2 == 1) {
-        return Colouring::Of(Side::A);
-    }
-    Colouring::Middle
 }
 
-// The step by a middle term, from the end that is A-colourable.
-pub fn by_middle(st: State, s: u16, t: u16) -> State
-    requires { (run : OnRun st) × T (derivable run.ts run.ls run.reached (pair s t)) × (colouring (get_or st.colours s 0) (get_or st.colours t 0) ≡ Colouring.Middle) }
-    ensures { (run : OnRun st) → T (derivable run.ts run.ls run.reached (pair s t)) → Outcome run.ts run.ls (derived_on run.ts run.ls run.reached (pair s t)) result }
-{
-    if st.colours[s as usize] % 2 == 1 {
-        return middle_step(st, s, t);
+impl State {
+    // "the first met on the parent path from the argument of the end that is A-colourable only": the first shared stop.
+    fn first_shared(&self, stops: &[u16]) -> Option<u16>
+        requires { All (λ v. v < 511) stops.now }
+        ensures { result ≡ find (λ v. eqb (get_or self.now.colours v 0) 3) stops.now }
+    {
+        stops
+            .iter()
+            .copied()
+            .find(|&m| self.colours[m as usize] == SHARED)
     }
-    middle_step(st, t, s)
+
+    // Argument by argument, the first shared term on its parent path, or nothing where such a path has none.
+    fn chosen(&self, forest: &Rooting, s: usize, t: usize) -> Option<[u16; 4]>
+        requires { (s < 511) × (t < 511) × Choosing self.now forest.now s t }
+        ensures { (w : Choosing self.now forest.now s t) → result ≡ option_map padded (first_shared w.ts w.ls w.table w.graph w.left w.right) }
+    {
+        let mut trail = Trail {
+            stops: [0; 511],
+            edges: [0; 511],
+            hops: 0,
+        };
+        let mut row = [0; 4];
+        for j in 0..self.arities[s] as usize {
+            forest.lay_path(self.rows[s][j], self.rows[t][j], &mut trail);
+            row[j] = self.first_shared(&trail.stops[..=trail.hops])?;
+        }
+        Some(row)
+    }
+
+    // Whether v is a vertex with a row, and with the symbol and the arity of s. Past the arity a row holds 0, which may be term 0, so the arity is compared
+    // too.
+    fn alike(&self, v: usize, s: usize, row: [u16; 4]) -> bool
+        requires { (v < 511) × (s < 511) }
+        ensures { IsTrue result ↔ Alike self.now s row v }
+    {
+        (self.symbols[v] == self.symbols[s])
+            & (self.arities[v] == self.arities[s])
+            & self.vertices[v]
+            && self.rows[v] == row
+    }
+
+    // The vertex that equals the middle term of a row, which has the symbol and the arity of s.
+    fn vertex_equal(&self, s: usize, row: [u16; 4]) -> Option<usize>
+        requires { (s < 511) × Placing self.now s row }
+        ensures { (p : Placing self.now s row) → result ≡ vertex_equal p.ts p.ls p.reached p.middle }
+    {
+        (0..self.terms).find(|&v| self.alike(v, s, row))
+    }
+
+    // The middle term's number. "If it is not a vertex it becomes one": a shared term more.
+    fn place(&mut self, s: usize, row: [u16; 4]) -> usize
+        requires { (s < 511) × Placing self.old s row }
+        ensures { (p : Placing self.old s row) → Shows p.ts p.ls (placed p.ts p.ls p.reached p.middle).state self.new × (result ≡ (placed p.ts p.ls p.reached p.middle).number) }
+    {
+        if let Some(v) = self.vertex_equal(s, row) {
+            return v;
+        }
+        let m = self.terms;
+        self.symbols[m] = self.symbols[s];
+        self.arities[m] = self.arities[s];
+        self.rows[m] = row;
+        self.colours[m] = SHARED;
+        self.vertices[m] = true;
+        self.terms = m + 1;
+        m
+    }
+
+    // "each of s and t not yet joined to it gets a derived edge to it": one end's part.
+    fn tie(&mut self, s: usize, m: usize, colour: Side)
+        requires { (s < 511) × (m < 511) × ((get_or self.old.labels s 0 ≡ get_or self.old.labels m 0 → ⊥) → self.old.graph.count < 510) }
+        ensures { (ts : List Term) (ls : List Literal) (reached : Reached) → Shows ts ls reached self.old → Shows ts ls (tied reached s m colour) self.new }
+    {
+        if self.labels[s] != self.labels[m] {
+            self.join(s, m, colour, EdgeKind::Derived);
+        }
+    }
+
+    // The step by a middle term, from s, which is A-colourable only, to t.
+    fn middle_step(&mut self, s: usize, t: usize) -> Result<(), Stuck>
+        requires { (run : OnRun self.old) × Apart run.ts run.ls run.reached s t }
+        ensures { (run : OnRun self.old) → Apart run.ts run.ls run.reached s t → Outcome run.ts run.ls (middle_from run.ts run.ls run.reached s t) result self.new }
+    {
+        let forest = rooting::rooted(&self.graph, &self.labels);
+        let row = self.chosen(&forest, s, t).ok_or(Stuck)?;
+        let m = self.place(s, row);
+        self.tie(s, m, Side::A);
+        self.tie(t, m, Side::B);
+        Ok(())
+    }
+
+    // The step by a middle term, from the end that is A-colourable.
+    pub(crate) fn by_middle(&mut self, s: usize, t: usize) -> Result<(), Stuck>
+        requires { (run : OnRun self.old) × T (derivable run.ts run.ls run.reached (pair s t)) × (colouring (get_or self.old.colours s 0) (get_or self.old.colours t 0) ≡ None) }
+        ensures { (run : OnRun self.old) → T (derivable run.ts run.ls run.reached (pair s t)) → Outcome run.ts run.ls (derived_on run.ts run.ls run.reached (pair s t)) result self.new }
+    {
+        if in_a(self.colours[s]) {
+            self.middle_step(s, t)
+        } else {
+            self.middle_step(t, s)
+        }
+    }
 }

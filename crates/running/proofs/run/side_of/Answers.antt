@@ -1,9 +1,0 @@
--- `running::run::side_of` meets its contract: each answer is the one that its test picks.
-use borrow.Author.Tests.{eq-eqb, ne_eqb}
-use Rattle.running.proofs.run.side_of.Goals as goal
-
-pub returns-then-b-eq1 : goal.returns-then-b-eq1
-returns-then-b-eq1 c = simp (eq-eqb _ _ c.if-b-eq1.true)
-
-pub returns-else-b-eq1 : goal.returns-else-b-eq1
-returns-else-b-eq1 c = simp (ne_eqb _ _ c.if-b-eq1.false)
