@@ -2,7 +2,7 @@
 use mathlib.Core.Bool.{false}
 use mathlib.Core.List.{List}
 use mathlib.Core.Logic.{⊎_elim}
-use mathlib.Core.Path.{◌≡◌, refl, sym, ap, ◌∙◌, subst}
+use mathlib.Core.Path.{◌≡◌, sym, ap, ◌∙◌}
 use Prim.Native.Nat.{ℕ, ◌+◌, ◌≤◌, ◌<◌}
 use native.Mathlib.Nat.{not-suc-le-zero}
 use native.Mathlib.Omega.{arith}
@@ -37,13 +37,6 @@ filled_more d size f i xs x h w e =
           (below_or_is k i (omega arith));
     }
 
--- the columns in which the parts of an edge are put under a number
-abbrev pub None : Columns → Type 0
-None r = (r.lefts ≡ replicate 510 0) × (r.rights ≡ replicate 510 0) × (r.inb ≡ replicate 510 false) × (r.derived ≡ replicate 510 false)
-
-abbrev pub Added : Columns → ℕ → Edge → Columns → Type 0
-Added c i e r = (r.lefts ≡ set c.lefts i e.left) × (r.rights ≡ set c.rights i e.right) × (r.inb ≡ set c.inb i (is_b e.colour)) × (r.derived ≡ set c.derived i (is_derived e.kind))
-
 module _ (es : List Edge) where
   -- the columns hold the first i edges
   pub record Laid (i : ℕ) (c : Columns) : Type 0 where
@@ -51,26 +44,6 @@ module _ (es : List Edge) where
     pub rights : Filled 0 510 (λ k. (get_or es k no_edge).right) i c.rights
     pub inb : Filled false 510 (λ k. is_b (get_or es k no_edge).colour) i c.inb
     pub derived : Filled false 510 (λ k. is_derived (get_or es k no_edge).kind) i c.derived
-
-  -- before the first edge
-  pub laid_none : (r : Columns) → None r → Laid 0 r
-  laid_none r e =
-      record {
-        lefts = subst (Filled 0 510 _ 0) (sym e.0) (filled_none 0 510 _);
-        rights = subst (Filled 0 510 _ 0) (sym e.1) (filled_none 0 510 _);
-        inb = subst (Filled false 510 _ 0) (sym e.2) (filled_none false 510 _);
-        derived = subst (Filled false 510 _ 0) (sym e.3) (filled_none false 510 _);
-      }
-
-  -- one edge more
-  pub laid_more : (i : ℕ) (c r : Columns) → i < 510 → Laid i c → Added c i (get_or es i no_edge) r → Laid (i + 1) r
-  laid_more i c r h w e =
-      record {
-        lefts = subst (Filled 0 510 _ (i + 1)) (sym e.0) (filled_more 0 510 _ i _ _ h w.lefts refl);
-        rights = subst (Filled 0 510 _ (i + 1)) (sym e.1) (filled_more 0 510 _ i _ _ h w.rights refl);
-        inb = subst (Filled false 510 _ (i + 1)) (sym e.2) (filled_more false 510 _ i _ _ h w.inb refl);
-        derived = subst (Filled false 510 _ (i + 1)) (sym e.3) (filled_more false 510 _ i _ _ h w.derived refl);
-      }
 
   -- all edges stand under their numbers
   pub laid_all : (n i : ℕ) (c : Columns) → n ≤ i → Laid i c → Each (PartsAt c.lefts c.rights c.inb c.derived) (newest_first n es)

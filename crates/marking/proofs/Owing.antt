@@ -1,18 +1,19 @@
 -- Reading the parent paths of marked edges, from the newest to the oldest: what is owed stays the same until all of it is marked.
-use mathlib.Core.Bool.{Bool, true, false, ◌&&◌, ◌||◌}
+use mathlib.Core.Bool.{Bool, true, false}
 use mathlib.Core.List.{List, [], ◌∷◌, map, Memᴰ}
 use mathlib.Core.Logic.{◌⊎◌, inl, inr, ⊎_elim, ◌↔◌}
 use mathlib.Core.Path.{◌≡◌, refl, sym, ap, ap₂, subst, ◌∙◌}
 use Prim.Native.Nat.{ℕ, zero, suc, ◌+◌, ◌-◌, ◌*◌, ◌≤◌, ◌<◌}
-use native.Mathlib.Nat.{not-suc-le-zero}
+use native.Mathlib.Nat.{not-suc-le-zero, eq-zero-or-pos}
 use native.Mathlib.Omega.{arith}
-use lib.Dec.{T, ltb, lt→ltb}
+use lib.Dec.{T}
 use lib.ListN.{length, get_or}
 use lib.Seq.{get_or-take}
+use Rattle.std.proofs.lemmas.Bool.{false≢true}
 use Rattle.tables.specs.Words.{Pair}
 use Rattle.tables.specs.Terms.{Term, term_at}
-use Rattle.tables.specs.LiteralTable.{Literal}
-use Rattle.tables.proofs.Words.{and_right, get_d_mem, below_or_is, passes, passed}
+use Rattle.tables.specs.declared.Literal.{Literal}
+use Rattle.tables.proofs.Words.{get_d_mem, below_or_is, passes}
 use Rattle.closure.specs.declared.Edge.{Edge}
 use Rattle.closure.specs.declared.EdgeKind.{EdgeKind}
 use Rattle.closure.specs.declared.EdgeKind.TheVariants.{Basic, Derived}
@@ -27,8 +28,10 @@ use Rattle.closure.proofs.Walking.OnePath.{path_older}
 use Rattle.closure.proofs.Walking.Parents.{SoundHop, hop_sound, path_hop, parent_hop}
 use Rattle.closure.proofs.Walking.Places.{basic_parents, joined_place, place_parent, parent_place}
 use Rattle.closure.proofs.Walking.ParentPaths.{sound_forest}
-use Rattle.marking.specs.Marks.{is_b, Reached, end_of, across, along, EdgeReached, PairWithin, Marked, Covered, InOrder, Owed, Trailed, done, step, Within, RowsOf, Wanted}
-use Rattle.marking.specs.Drawn.{parents_for, EdgeAt, Drawing, Drawn, DrawnSome, EdgeSettled, Settled}
+use Rattle.marking.specs.declared.drawing.Drawing.{Drawing}
+use Rattle.marking.specs.declared.marks.Marks.{Marks}
+use Rattle.marking.specs.Marks.{is_b, Reached, end_of, across, along, EdgeReached, PairWithin, Marked, Covered, Owed, Trailed, done, step, Within, RowsOf, Wanted}
+use Rattle.marking.specs.Drawn.{parents_for, EdgeAt, Drawn, DrawnSome, EdgeSettled}
 use Rattle.marking.proofs.Squares.{same_or_not}
 use Rattle.marking.proofs.Reached.{edge_parents, wants_owed, owed_kept, reached_owed}
 
@@ -58,18 +61,18 @@ hop_colour table inb places parents G p {h} of =
 
 -- ---- a path of the closure layer as a trail
 
-module _ (inb : List Bool) (stops edges : List ℕ) (hi : ℕ) (G : Graph) (colours : (h : Hop) → HopOf h G → get_or inb (length h.older) false ≡ is_b h.colour) where
+module _ (inb : List Bool) (trail : Trail) (hi : ℕ) (G : Graph) (colours : (h : Hop) → HopOf h G → get_or inb (length h.older) false ≡ is_b h.colour) where
   -- a walk whose stops and edges stand in the lists from place lo on
-  walk_trailed : {u v : ℕ} {π : Path} (lo : ℕ) → Walk G u v π → lo + length π ≡ hi → ((k : ℕ) → k ≤ length π → get_or stops (lo + k) 0 ≡ get_or (vertices u π) k 0) → ((k : ℕ) → k < length π → get_or edges (lo + k) 0 ≡ get_or (map number π) k 0) → Trailed inb stops edges hi lo π
+  walk_trailed : {u v : ℕ} {π : Path} (lo : ℕ) → Walk G u v π → lo + length π ≡ hi → ((k : ℕ) → k ≤ length π → get_or trail.stops (lo + k) 0 ≡ get_or (vertices u π) k 0) → ((k : ℕ) → k < length π → get_or trail.edges (lo + k) 0 ≡ get_or (map number π) k 0) → Trailed inb trail hi lo π
   walk_trailed lo (stay q) e S E = let at : lo ≡ hi = omega (arith, e) in done at
   walk_trailed {u} lo (hop {h = h} {π = π} k q w) e S E =
       let here : lo + 0 ≡ lo = omega arith in
       let next : (n : ℕ) → lo + suc n ≡ suc lo + n = λ n. omega arith in
-      let at : get_or edges lo 0 ≡ length h.older = ap (λ (n : ℕ). get_or edges n 0) (sym here) ∙ E 0 (omega arith) in
-      step (ap (λ (n : ℕ). get_or stops n 0) (sym here) ∙ S 0 (omega arith) ∙ q)
-      (ap (λ (n : ℕ). get_or stops n 0) (omega arith) ∙ S 1 (omega arith)) at
+      let at : get_or trail.edges lo 0 ≡ length h.older = ap (λ (n : ℕ). get_or trail.edges n 0) (sym here) ∙ E 0 (omega arith) in
+      step (ap (λ (n : ℕ). get_or trail.stops n 0) (sym here) ∙ S 0 (omega arith) ∙ q)
+      (ap (λ (n : ℕ). get_or trail.stops n 0) (omega arith) ∙ S 1 (omega arith)) at
       (ap (λ (n : ℕ). get_or inb n false) at ∙ colours h k)
-      (walk_trailed (suc lo) w (omega (arith, e)) (λ n l. ap (λ (m : ℕ). get_or stops m 0) (sym (next n)) ∙ S (suc n) (omega (arith, l))) (λ n l. ap (λ (m : ℕ). get_or edges m 0) (sym (next n)) ∙ E (suc n) (omega (arith, l))))
+      (walk_trailed (suc lo) w (omega (arith, e)) (λ n l. ap (λ (m : ℕ). get_or trail.stops m 0) (sym (next n)) ∙ S (suc n) (omega (arith, l))) (λ n l. ap (λ (m : ℕ). get_or trail.edges m 0) (sym (next n)) ∙ E (suc n) (omega (arith, l))))
 
 -- the members of the vertices of a walk and the numbers of its edges are in range
 walk_stops : (G : Graph) (n m : ℕ) → ((h : Hop) → HopOf h G → (h.to < n) × (length h.older < m)) → {u v : ℕ} {π : Path} → u < n → Walk G u v π → ((k : ℕ) → k ≤ length π → get_or (vertices u π) k 0 < n) × ((k : ℕ) → k < length π → get_or (map number π) k 0 < m)
@@ -117,13 +120,13 @@ has_derived Derived n j l = (refl, l)
 
 module _ (arrays : Drawing) (ts : List Term) (ls : List Literal) (table : List Term) (G : Graph) (d : Drawn arrays ts ls table G) where
   -- the path between joined vertices as the closure layer hands it out
-  pub record PathRead (u v hi : ℕ) (stops edges : List ℕ) : Type 0 where
-    pub within : Within stops edges 0 hi
-    pub trailed : Trailed arrays.inb stops edges hi 0 (path G u v)
-    pub in_table : (k : ℕ) → k ≤ hi → get_or stops k 0 < length table
+  pub record PathRead (u v : ℕ) (r : Trail) : Type 0 where
+    pub within : Within r 0 r.hops
+    pub trailed : Trailed arrays.inb r r.hops 0 (path G u v)
+    pub in_table : (k : ℕ) → k ≤ r.hops → get_or r.stops k 0 < length table
 
   -- its trail and its range
-  pub path_read : (u v : ℕ) → u < length table → T (joined G u v) → (r : Trail) → TrailOf G u v r → PathRead u v r.hops r.stops r.edges
+  pub path_read : (u v : ℕ) → u < length table → T (joined G u v) → (r : Trail) → TrailOf G u v r → PathRead u v r
   path_read u v low j r t =
       let w = path_walk G u v j in
       let range : (h : Hop) → HopOf h G → (h.to < length table) × (length h.older < 510) = λ h of. ((hop_sound ts ls table of d.sound).to_within, omega (arith, older_fewer of, d.counted, d.few)) in
@@ -134,13 +137,13 @@ module _ (arrays : Drawing) (ts : List Term) (ls : List Literal) (table : List T
       let in_table : (k : ℕ) → k ≤ r.hops → get_or r.stops k 0 < length table = λ k l. subst (λ (x : ℕ). x < length table) (sym (S k (omega (arith, t.hops, l)))) (in-range.0 k (omega (arith, t.hops, l))) in
       record {
         within = record { forward = omega arith; short = t.within; stops_low = λ k l. omega (arith, in_table k l, d.small); edges_low = λ k l. subst (λ (x : ℕ). x < 510) (sym (E k (omega (arith, t.hops, l)))) (in-range.1 k (omega (arith, t.hops, l))) };
-        trailed = walk_trailed arrays.inb r.stops r.edges r.hops G (λ h of. hop_colour table arrays.inb arrays.places arrays.parents G d.edges of) 0 w (omega (arith, t.hops)) (λ k l. ap (λ (m : ℕ). get_or r.stops m 0) (none k) ∙ S k l) (λ k l. ap (λ (m : ℕ). get_or r.edges m 0) (none k) ∙ E k l);
+        trailed = walk_trailed arrays.inb r r.hops G (λ h of. hop_colour table arrays.inb arrays.places arrays.parents G d.edges of) 0 w (omega (arith, t.hops)) (λ k l. ap (λ (m : ℕ). get_or r.stops m 0) (none k) ∙ S k l) (λ k l. ap (λ (m : ℕ). get_or r.edges m 0) (none k) ∙ E k l);
         in_table = in_table;
       }
 
   -- a square with a row for each vertex has the row of each stop
-  pub path_rows : {u v hi : ℕ} {stops edges : List ℕ} (size : ℕ) → 511 * length table ≤ size → PathRead u v hi stops edges → RowsOf size stops hi
-  path_rows size h r = record { row = λ k l. omega (arith, r.in_table k l) }
+  pub path_rows : {u v : ℕ} {r : Trail} (size : ℕ) → 511 * length table ≤ size → PathRead u v r → RowsOf size r r.hops
+  path_rows size h w = record { row = λ k l. omega (arith, w.in_table k l) }
 
   -- an edge by its number
   pub record EdgeRead (i : ℕ) : Type 0 where
@@ -249,24 +252,17 @@ module _ (arrays : Drawing) (i : ℕ) (b mode : Bool) where
   DrawnAs ts ls table G = Drawn arrays ts ls table G
 
   -- the paths between the first j arguments are read
-  pub record EdgeTo (pairs₀ rows₀ inside₀ under₀ : List Bool) (j : ℕ) (pairs rows inside under : List Bool) : Type 0 where
+  pub record EdgeTo (pairs₀ : List Bool) (marks₀ : Marks) (j : ℕ) (pairs : List Bool) (marks : Marks) : Type 0 where
     pub same : length pairs ≡ length pairs₀
-    pub in_order : InOrder rows inside under
-    pub cover : Covered pairs₀ rows₀ → Covered pairs rows
-    pub owed : (ts : List Term) (ls : List Literal) (table : List Term) (G : Graph) → DrawnAs ts ls table G → (p : Pair) → PairWithin 511 p → Owed table G b pairs inside under i p ↔ (Owed table G b pairs₀ inside₀ under₀ i p ⊎ ((k : ℕ) × (k < j) × Reached table b p mode (path G (left_end_at arrays i k) (right_end_at arrays i k))))
+    pub cover : Covered pairs₀ marks₀.rows → Covered pairs marks.rows
+    pub owed : (ts : List Term) (ls : List Literal) (table : List Term) (G : Graph) → DrawnAs ts ls table G → (p : Pair) → PairWithin 511 p → Owed table G b pairs marks i p ↔ (Owed table G b pairs₀ marks₀ i p ⊎ ((k : ℕ) × (k < j) × Reached table b p mode (path G (left_end_at arrays i k) (right_end_at arrays i k))))
 
-  -- no argument yet
-  pub edge_none : (pairs rows inside under : List Bool) → InOrder rows inside under → EdgeTo pairs rows inside under 0 pairs rows inside under
-  edge_none pairs rows inside under o =
-      record { same = refl; in_order = o; cover = λ c. c; owed = λ ts ls table G d p w. (inl, λ x. ⊎_elim (λ y. y) (λ y. absurd (not-suc-le-zero y.1)) x) }
-
-  module _ (h : i < arrays.count) (pairs₀ rows₀ inside₀ under₀ : List Bool) where
+  module _ (h : i < arrays.count) (pairs₀ : List Bool) (marks₀ : Marks) where
     -- one argument more
-    pub edge_more : (j : ℕ) (pairs rows inside under pairs' rows' inside' under' : List Bool) (stops edges : List ℕ) (hops : ℕ) → j < paths_at arrays i → ((ts : List Term) (ls : List Literal) (table : List Term) (G : Graph) → DrawnAs ts ls table G → Trailed arrays.inb stops edges hops 0 (path G (left_end_at arrays i j) (right_end_at arrays i j))) → EdgeTo pairs₀ rows₀ inside₀ under₀ j pairs rows inside under → Wanted arrays.inb stops edges 0 hops b mode pairs rows inside under pairs' rows' inside' under' → EdgeTo pairs₀ rows₀ inside₀ under₀ (j + 1) pairs' rows' inside' under'
-    edge_more j pairs rows inside under pairs' rows' inside' under' stops edges hops l trail x w =
+    pub edge_more : (j : ℕ) (pairs : List Bool) (marks : Marks) (pairs' : List Bool) (marks' : Marks) (r : Trail) → j < paths_at arrays i → ((ts : List Term) (ls : List Literal) (table : List Term) (G : Graph) → DrawnAs ts ls table G → Trailed arrays.inb r r.hops 0 (path G (left_end_at arrays i j) (right_end_at arrays i j))) → EdgeTo pairs₀ marks₀ j pairs marks → Wanted arrays.inb r 0 r.hops b mode pairs marks pairs' marks' → EdgeTo pairs₀ marks₀ (j + 1) pairs' marks'
+    edge_more j pairs marks pairs' marks' r l trail x w =
         record {
           same = w.same ∙ x.same;
-          in_order = w.in_order;
           cover = λ c. w.cover (x.cover c);
           owed = λ ts ls table G d p v. (λ y. to ts ls table G d p v y, λ y. from ts ls table G d p v y);
         }
@@ -280,40 +276,35 @@ module _ (arrays : Drawing) (i : ℕ) (b mode : Bool) where
         low : (ts : List Term) (ls : List Literal) (table : List Term) (G : Graph) → DrawnAs ts ls table G → (g : Hop) → Memᴰ g (path G (left_end_at arrays i j) (right_end_at arrays i j)) → length g.older < i
         low ts ls table G d g m = paired_lower arrays ts ls table G d i h j l g m
 
-        to : (ts : List Term) (ls : List Literal) (table : List Term) (G : Graph) → DrawnAs ts ls table G → (p : Pair) → PairWithin 511 p → Owed table G b pairs' inside' under' i p → Owed table G b pairs₀ inside₀ under₀ i p ⊎ Reads table G p (j + 1)
+        to : (ts : List Term) (ls : List Literal) (table : List Term) (G : Graph) → DrawnAs ts ls table G → (p : Pair) → PairWithin 511 p → Owed table G b pairs' marks' i p → Owed table G b pairs₀ marks₀ i p ⊎ Reads table G p (j + 1)
         to ts ls table G d p v y =
             ⊎_elim
             (λ z. ⊎_elim inl (λ q. inr (q.0, omega (arith, q.1), q.2)) ((x.owed ts ls table G d p v).0 z))
             (λ z. inr (j, omega arith, z))
-            (wants_owed ts ls table G d.sound b p mode (path G (left_end_at arrays i j) (right_end_at arrays i j)) (over G) pairs inside under pairs' inside' under' i v (w.wants _ (trail ts ls table G d)) y)
+            (wants_owed ts ls table G d.sound b p mode (path G (left_end_at arrays i j) (right_end_at arrays i j)) (over G) pairs marks pairs' marks' i v (w.wants _ (trail ts ls table G d)) y)
 
-        from : (ts : List Term) (ls : List Literal) (table : List Term) (G : Graph) → DrawnAs ts ls table G → (p : Pair) → PairWithin 511 p → Owed table G b pairs₀ inside₀ under₀ i p ⊎ Reads table G p (j + 1) → Owed table G b pairs' inside' under' i p
+        from : (ts : List Term) (ls : List Literal) (table : List Term) (G : Graph) → DrawnAs ts ls table G → (p : Pair) → PairWithin 511 p → Owed table G b pairs₀ marks₀ i p ⊎ Reads table G p (j + 1) → Owed table G b pairs' marks' i p
         from ts ls table G d p v y =
             let wants = w.wants _ (trail ts ls table G d) in
-            let kept : Owed table G b pairs inside under i p → Owed table G b pairs' inside' under' i p = λ z. owed_kept ts ls table G d.sound b p mode (path G (left_end_at arrays i j) (right_end_at arrays i j)) (over G) pairs inside under pairs' inside' under' i v wants z in
+            let kept : Owed table G b pairs marks i p → Owed table G b pairs' marks' i p = λ z. owed_kept ts ls table G d.sound b p mode (path G (left_end_at arrays i j) (right_end_at arrays i j)) (over G) pairs marks pairs' marks' i v wants z in
             ⊎_elim
             (λ z. kept ((x.owed ts ls table G d p v).1 (inl z)))
-            (λ q. ⊎_elim (λ (m : q.0 < j). kept ((x.owed ts ls table G d p v).1 (inr (q.0, m, q.2)))) (λ (e : q.0 ≡ j). reached_owed ts ls table G d.sound b p mode (path G (left_end_at arrays i j) (right_end_at arrays i j)) (over G) pairs inside under pairs' inside' under' i v wants (low ts ls table G d) (subst (λ (k : ℕ). Reached table b p mode (path G (left_end_at arrays i k) (right_end_at arrays i k))) e q.2)) (below_or_is q.0 j (omega (arith, q.1))))
+            (λ q. ⊎_elim (λ (m : q.0 < j). kept ((x.owed ts ls table G d p v).1 (inr (q.0, m, q.2)))) (λ (e : q.0 ≡ j). reached_owed ts ls table G d.sound b p mode (path G (left_end_at arrays i j) (right_end_at arrays i j)) (over G) pairs marks pairs' marks' i v wants (low ts ls table G d) (subst (λ (k : ℕ). Reached table b p mode (path G (left_end_at arrays i k) (right_end_at arrays i k))) e q.2)) (below_or_is q.0 j (omega (arith, q.1))))
             y
 
     -- all of them
-    pub edge_all : (j : ℕ) (pairs rows inside under : List Bool) → j ≡ paths_at arrays i → EdgeTo pairs₀ rows₀ inside₀ under₀ j pairs rows inside under → EdgeSettled arrays i b mode pairs₀ rows₀ inside₀ under₀ pairs rows inside under
-    edge_all j pairs rows inside under e x =
+    pub edge_all : (j : ℕ) (pairs : List Bool) (marks : Marks) → j ≡ paths_at arrays i → EdgeTo pairs₀ marks₀ j pairs marks → EdgeSettled arrays i b mode pairs₀ marks₀ pairs marks
+    edge_all j pairs marks e x =
         record {
           same = x.same;
-          in_order = x.in_order;
           cover = x.cover;
           owed = λ ts ls table G d p v. let y = x.owed ts ls table G d p v in let r = paired_reached arrays ts ls table G d i h b mode p in (λ z. ⊎_elim inl (λ q. inr (r.1 (q.0, omega (arith, q.1, e), q.2))) (y.0 z), λ z. y.1 (⊎_elim inl (λ q. let t = r.0 q in inr (t.0, omega (arith, t.1, e), t.2)) z));
         }
 
 -- ---- what the code needs of the arrays
 
--- a square that stays as long has the rows still
-pub drawn_kept : (arrays : Drawing) (size size' : ℕ) → size' ≡ size → DrawnSome arrays size → DrawnSome arrays size'
-drawn_kept arrays size size' e s = (s.0, s.1, s.2, s.3, s.4, omega (arith, e, s.5))
-
 -- joined vertices, in the rooted forest
-pub joins : (arrays : Drawing) (ts : List Term) (ls : List Literal) (table : List Term) (G : Graph) → Drawn arrays ts ls table G → {u v : ℕ} → T (joined G u v) → Joining arrays.toward arrays.by arrays.rank u v G
+pub joins : (arrays : Drawing) (ts : List Term) (ls : List Literal) (table : List Term) (G : Graph) → Drawn arrays ts ls table G → {u v : ℕ} → T (joined G u v) → Joining arrays.forest u v G
 joins arrays ts ls table G d j = record { forest = sound_forest ts ls table G d.sound; rooted = d.rooted; join = j }
 
 module _ (arrays : Drawing) (i : ℕ) (h : i < arrays.count) where
@@ -334,17 +325,17 @@ module _ (arrays : Drawing) (i : ℕ) (h : i < arrays.count) where
 
   module _ (j : ℕ) (l : j < paths_at arrays i) where
     -- the paired arguments are joined in the rooted forest
-    pub joining : (ts : List Term) (ls : List Literal) (table : List Term) (G : Graph) → Drawn arrays ts ls table G → Joining arrays.toward arrays.by arrays.rank (left_end_at arrays i j) (right_end_at arrays i j) G
+    pub joining : (ts : List Term) (ls : List Literal) (table : List Term) (G : Graph) → Drawn arrays ts ls table G → Joining arrays.forest (left_end_at arrays i j) (right_end_at arrays i j) G
     joining ts ls table G d = joins arrays ts ls table G d (paired arrays ts ls table G d i h j l).join
 
     -- so the path between them is asked for
-    pub path_asked : (size : ℕ) → DrawnSome arrays size → (left_end_at arrays i j < 511) × (right_end_at arrays i j < 511) × ((G : Graph) × Joining arrays.toward arrays.by arrays.rank (left_end_at arrays i j) (right_end_at arrays i j) G)
+    pub path_asked : (size : ℕ) → DrawnSome arrays size → (left_end_at arrays i j < 511) × (right_end_at arrays i j < 511) × ((G : Graph) × Joining arrays.forest (left_end_at arrays i j) (right_end_at arrays i j) G)
     path_asked size s =
         let p = paired arrays s.0 s.1 s.2 s.3 s.4 i h j l in
         (omega (arith, p.left_low, s.4.small), omega (arith, p.right_low, s.4.small), (s.3, joining s.0 s.1 s.2 s.3 s.4))
 
     -- and read
-    pub path_given : (r : Trail) → ((G : Graph) → Joining arrays.toward arrays.by arrays.rank (left_end_at arrays i j) (right_end_at arrays i j) G → TrailOf G (left_end_at arrays i j) (right_end_at arrays i j) r) → (ts : List Term) (ls : List Literal) (table : List Term) (G : Graph) (d : Drawn arrays ts ls table G) → PathRead arrays ts ls table G d (left_end_at arrays i j) (right_end_at arrays i j) r.hops r.stops r.edges
+    pub path_given : (r : Trail) → ((G : Graph) → Joining arrays.forest (left_end_at arrays i j) (right_end_at arrays i j) G → TrailOf G (left_end_at arrays i j) (right_end_at arrays i j) r) → (ts : List Term) (ls : List Literal) (table : List Term) (G : Graph) (d : Drawn arrays ts ls table G) → PathRead arrays ts ls table G d (left_end_at arrays i j) (right_end_at arrays i j) r
     path_given r t ts ls table G d =
         let p = paired arrays ts ls table G d i h j l in
         path_read arrays ts ls table G d (left_end_at arrays i j) (right_end_at arrays i j) p.left_low p.join r (t G (joining ts ls table G d))
@@ -358,100 +349,77 @@ reached_more (across m e o r) = across m e o r
 reached_more (along x m e o r) = along x m e o r
 
 -- what is owed below n is owed below n - 1, or by the edge of that number
-abbrev pub OwedBy : List Term → Graph → Bool → List Bool → List Bool → ℕ → Pair → Type 0
-OwedBy table G b inside under i p = (Marked inside i × EdgeReached table G b p true i) ⊎ (Marked under i × EdgeReached table G b p false i)
+abbrev pub OwedBy : List Term → Graph → Bool → Marks → ℕ → Pair → Type 0
+OwedBy table G b marks i p = (Marked marks.inside i × EdgeReached table G b p true i) ⊎ (Marked marks.under i × EdgeReached table G b p false i)
 
 -- what is owed below n, in two parts
-owed_split : (table : List Term) (G : Graph) (b : Bool) (pairs inside under : List Bool) (n i : ℕ) (p : Pair) → n ≡ i + 1 → Owed table G b pairs inside under n p ↔ (Owed table G b pairs inside under i p ⊎ OwedBy table G b inside under i p)
-owed_split table G b pairs inside under n i p e = (to, from)
+owed_split : (table : List Term) (G : Graph) (b : Bool) (pairs : List Bool) (marks : Marks) (n i : ℕ) (p : Pair) → n ≡ i + 1 → Owed table G b pairs marks n p ↔ (Owed table G b pairs marks i p ⊎ OwedBy table G b marks i p)
+owed_split table G b pairs marks n i p e = (to, from)
   where
-    to : Owed table G b pairs inside under n p → Owed table G b pairs inside under i p ⊎ OwedBy table G b inside under i p
+    to : Owed table G b pairs marks n p → Owed table G b pairs marks i p ⊎ OwedBy table G b marks i p
     to (inl m) = inl (inl m)
-    to (inr (k, l, x)) = ⊎_elim (λ (m : k < i). inl (inr (k, m, x))) (λ (q : k ≡ i). inr (subst (λ (y : ℕ). OwedBy table G b inside under y p) q x)) (below_or_is k i (omega (arith, l, e)))
+    to (inr (k, l, x)) = ⊎_elim (λ (m : k < i). inl (inr (k, m, x))) (λ (q : k ≡ i). inr (subst (λ (y : ℕ). OwedBy table G b marks y p) q x)) (below_or_is k i (omega (arith, l, e)))
 
-    from : Owed table G b pairs inside under i p ⊎ OwedBy table G b inside under i p → Owed table G b pairs inside under n p
+    from : Owed table G b pairs marks i p ⊎ OwedBy table G b marks i p → Owed table G b pairs marks n p
     from (inl (inl m)) = inl m
     from (inl (inr (k, l, x))) = inr (k, omega (arith, l, e), x)
     from (inr x) = inr (i, omega (arith, e), x)
 
 module _ (arrays : Drawing) (b : Bool) where
   -- the edges from number i on are read
-  pub record SettledTo (pairs₀ rows₀ inside₀ under₀ : List Bool) (i : ℕ) (pairs rows inside under : List Bool) : Type 0 where
+  pub record SettledTo (pairs₀ : List Bool) (marks₀ : Marks) (i : ℕ) (pairs : List Bool) (marks : Marks) : Type 0 where
     pub within : i ≤ arrays.count
     pub same : length pairs ≡ length pairs₀
-    pub in_order : InOrder rows inside under
-    pub cover : Covered pairs₀ rows₀ → Covered pairs rows
-    pub owed : (ts : List Term) (ls : List Literal) (table : List Term) (G : Graph) → Drawn arrays ts ls table G → (p : Pair) → PairWithin 511 p → Owed table G b pairs inside under i p ↔ Owed table G b pairs₀ inside₀ under₀ arrays.count p
+    pub cover : Covered pairs₀ marks₀.rows → Covered pairs marks.rows
+    pub owed : (ts : List Term) (ls : List Literal) (table : List Term) (G : Graph) → Drawn arrays ts ls table G → (p : Pair) → PairWithin 511 p → Owed table G b pairs marks i p ↔ Owed table G b pairs₀ marks₀ arrays.count p
 
-  -- no edge yet
-  pub settle_none : (pairs rows inside under : List Bool) → InOrder rows inside under → SettledTo pairs rows inside under arrays.count pairs rows inside under
-  settle_none pairs rows inside under o = record { within = omega arith; same = refl; in_order = o; cover = λ c. c; owed = λ ts ls table G d p w. (λ x. x, λ x. x) }
-
-  module _ (pairs₀ rows₀ inside₀ under₀ : List Bool) (n : ℕ) (pairs rows inside under : List Bool) (some : 0 < n) (x : SettledTo pairs₀ rows₀ inside₀ under₀ n pairs rows inside under) where
+  module _ (pairs₀ : List Bool) (marks₀ : Marks) (n : ℕ) (pairs : List Bool) (marks : Marks) (some : 0 < n) (x : SettledTo pairs₀ marks₀ n pairs marks) where
     -- a turn at the edge n - 1 after which what is owed below it is what was, and what the edge owed
-    settle_turn : (pairs' rows' inside' under' : List Bool) → length pairs' ≡ length pairs → InOrder rows' inside' under' → (Covered pairs rows → Covered pairs' rows') → ((ts : List Term) (ls : List Literal) (table : List Term) (G : Graph) → Drawn arrays ts ls table G → (p : Pair) → PairWithin 511 p → Owed table G b pairs' inside' under' (n - 1) p ↔ (Owed table G b pairs inside under (n - 1) p ⊎ OwedBy table G b inside under (n - 1) p)) → SettledTo pairs₀ rows₀ inside₀ under₀ (n - 1) pairs' rows' inside' under'
-    settle_turn pairs' rows' inside' under' e o c f =
+    settle_turn : (pairs' : List Bool) (marks' : Marks) → length pairs' ≡ length pairs → (Covered pairs marks.rows → Covered pairs' marks'.rows) → ((ts : List Term) (ls : List Literal) (table : List Term) (G : Graph) → Drawn arrays ts ls table G → (p : Pair) → PairWithin 511 p → Owed table G b pairs' marks' (n - 1) p ↔ (Owed table G b pairs marks (n - 1) p ⊎ OwedBy table G b marks (n - 1) p)) → SettledTo pairs₀ marks₀ (n - 1) pairs' marks'
+    settle_turn pairs' marks' e c f =
         record {
           within = omega (arith, x.within);
           same = e ∙ x.same;
-          in_order = o;
           cover = λ y. c (x.cover y);
-          owed = λ ts ls table G d p w. let s = owed_split table G b pairs inside under n (n - 1) p (omega arith) in let g = f ts ls table G d p w in let y = x.owed ts ls table G d p w in (λ z. y.0 (s.1 (g.0 z)), λ z. g.1 (s.0 (y.1 z)));
+          owed = λ ts ls table G d p w. let s = owed_split table G b pairs marks n (n - 1) p (omega arith) in let g = f ts ls table G d p w in let y = x.owed ts ls table G d p w in (λ z. y.0 (s.1 (g.0 z)), λ z. g.1 (s.0 (y.1 z)));
         }
 
     -- an edge whose parent paths are read whole: that covers their premises' clauses
-    settle_whole : (pairs' rows' inside' under' : List Bool) → get_or inside (n - 1) false ≡ true → EdgeSettled arrays (n - 1) b true pairs rows inside under pairs' rows' inside' under' → SettledTo pairs₀ rows₀ inside₀ under₀ (n - 1) pairs' rows' inside' under'
-    settle_whole pairs' rows' inside' under' e s =
-        settle_turn pairs' rows' inside' under' s.same s.in_order s.cover
-        (λ ts ls table G d p w. let y = s.owed ts ls table G d p w in (λ z. ⊎_elim inl (λ q. inr (inl (passes (get_or inside (n - 1) false) e, q))) (y.0 z), λ z. y.1 (⊎_elim inl (λ q. inr (⊎_elim (λ a. a.1) (λ a. (a.1.0, a.1.1, a.1.2, (a.1.3.0, a.1.3.1, reached_more a.1.3.2))) q)) z)))
+    settle_whole : (pairs' : List Bool) (marks' : Marks) → get_or marks.inside (n - 1) false ≡ true → EdgeSettled arrays (n - 1) b true pairs marks pairs' marks' → SettledTo pairs₀ marks₀ (n - 1) pairs' marks'
+    settle_whole pairs' marks' e s =
+        settle_turn pairs' marks' s.same s.cover
+        (λ ts ls table G d p w. let y = s.owed ts ls table G d p w in (λ z. ⊎_elim inl (λ q. inr (inl (passes (get_or marks.inside (n - 1) false) e, q))) (y.0 z), λ z. y.1 (⊎_elim inl (λ q. inr (⊎_elim (λ a. a.1) (λ a. (a.1.0, a.1.1, a.1.2, (a.1.3.0, a.1.3.1, reached_more a.1.3.2))) q)) z)))
 
     -- an edge whose parent paths' own factors do not count
-    settle_under : (pairs' rows' inside' under' : List Bool) → get_or inside (n - 1) false ≡ false → get_or under (n - 1) false ≡ true → EdgeSettled arrays (n - 1) b false pairs rows inside under pairs' rows' inside' under' → SettledTo pairs₀ rows₀ inside₀ under₀ (n - 1) pairs' rows' inside' under'
-    settle_under pairs' rows' inside' under' e u s =
-        settle_turn pairs' rows' inside' under' s.same s.in_order s.cover
-        (λ ts ls table G d p w. let y = s.owed ts ls table G d p w in (λ z. ⊎_elim inl (λ q. inr (inr (passes (get_or under (n - 1) false) u, q))) (y.0 z), λ z. y.1 (⊎_elim inl (λ q. inr (⊎_elim (λ a. absurd (subst T e a.0)) (λ a. a.1) q)) z)))
+    settle_under : (pairs' : List Bool) (marks' : Marks) → get_or marks.inside (n - 1) false ≡ false → get_or marks.under (n - 1) false ≡ true → EdgeSettled arrays (n - 1) b false pairs marks pairs' marks' → SettledTo pairs₀ marks₀ (n - 1) pairs' marks'
+    settle_under pairs' marks' e u s =
+        settle_turn pairs' marks' s.same s.cover
+        (λ ts ls table G d p w. let y = s.owed ts ls table G d p w in (λ z. ⊎_elim inl (λ q. inr (inr (passes (get_or marks.under (n - 1) false) u, q))) (y.0 z), λ z. y.1 (⊎_elim inl (λ q. inr (⊎_elim (λ a. absurd (subst T e a.0)) (λ a. a.1) q)) z)))
 
     -- an edge that is not marked
-    settle_unmarked : get_or inside (n - 1) false ≡ false → get_or under (n - 1) false ≡ false → SettledTo pairs₀ rows₀ inside₀ under₀ (n - 1) pairs rows inside under
+    settle_unmarked : get_or marks.inside (n - 1) false ≡ false → get_or marks.under (n - 1) false ≡ false → SettledTo pairs₀ marks₀ (n - 1) pairs marks
     settle_unmarked e u =
-        settle_turn pairs rows inside under refl x.in_order (λ c. c)
+        settle_turn pairs marks refl (λ c. c)
         (λ ts ls table G d p w. (inl, λ z. ⊎_elim (λ y. y) (λ q. absurd (⊎_elim (λ a. subst T e a.0) (λ a. subst T u a.0) q)) z))
 
     -- an edge without a parent path
-    settle_bare : (0 < paths_at arrays (n - 1) → ⊥) → SettledTo pairs₀ rows₀ inside₀ under₀ (n - 1) pairs rows inside under
+    settle_bare : (0 < paths_at arrays (n - 1) → ⊥) → SettledTo pairs₀ marks₀ (n - 1) pairs marks
     settle_bare e =
-        settle_turn pairs rows inside under refl x.in_order (λ c. c)
+        settle_turn pairs marks refl (λ c. c)
         (λ ts ls table G d p w. (inl, λ z. ⊎_elim (λ y. y) (λ q. absurd (⊎_elim (λ a. none ts ls table G d true p a.1) (λ a. none ts ls table G d false p a.1) q)) z))
       where
         none : (ts : List Term) (ls : List Literal) (table : List Term) (G : Graph) → Drawn arrays ts ls table G → (mode : Bool) (p : Pair) → EdgeReached table G b p mode (n - 1) → ⊥
         none ts ls table G d mode p r = let t = (paired_reached arrays ts ls table G d (n - 1) (omega (arith, x.within)) b mode p).0 r in e (omega (arith, t.1))
 
     -- an edge whose parent paths are asked for
-    pub settle_asked : (pairs' rows' inside' under' : List Bool) → (ltb 0 (paths_at arrays (n - 1)) && (get_or inside (n - 1) false || get_or under (n - 1) false)) ≡ true → EdgeSettled arrays (n - 1) b (get_or inside (n - 1) false) pairs rows inside under pairs' rows' inside' under' → SettledTo pairs₀ rows₀ inside₀ under₀ (n - 1) pairs' rows' inside' under'
-    settle_asked pairs' rows' inside' under' e s = go (get_or inside (n - 1) false) refl e s
+    pub settle_asked : (pairs' : List Bool) (marks' : Marks) → (get_or marks.inside (n - 1) false ≡ true) ⊎ (get_or marks.under (n - 1) false ≡ true) → EdgeSettled arrays (n - 1) b (get_or marks.inside (n - 1) false) pairs marks pairs' marks' → SettledTo pairs₀ marks₀ (n - 1) pairs' marks'
+    settle_asked pairs' marks' e s = go (get_or marks.inside (n - 1) false) refl e s
       where
-        go : (y : Bool) → get_or inside (n - 1) false ≡ y → (ltb 0 (paths_at arrays (n - 1)) && (y || get_or under (n - 1) false)) ≡ true → EdgeSettled arrays (n - 1) b y pairs rows inside under pairs' rows' inside' under' → SettledTo pairs₀ rows₀ inside₀ under₀ (n - 1) pairs' rows' inside' under'
-        go true q e s = settle_whole pairs' rows' inside' under' q s
-        go false q e s =
-            let u = get_or under (n - 1) false in
-            let any = ltb 0 (paths_at arrays (n - 1)) in
-            settle_under pairs' rows' inside' under' q (passed u (and_right any u (passes (any && u) e))) s
+        go : (y : Bool) → get_or marks.inside (n - 1) false ≡ y → (y ≡ true) ⊎ (get_or marks.under (n - 1) false ≡ true) → EdgeSettled arrays (n - 1) b y pairs marks pairs' marks' → SettledTo pairs₀ marks₀ (n - 1) pairs' marks'
+        go true q e s = settle_whole pairs' marks' q s
+        go false q (inl e) s = absurd (false≢true e)
+        go false q (inr u) s = settle_under pairs' marks' q u s
 
     -- one whose are not
-    pub settle_left : (ltb 0 (paths_at arrays (n - 1)) && (get_or inside (n - 1) false || get_or under (n - 1) false)) ≡ false → SettledTo pairs₀ rows₀ inside₀ under₀ (n - 1) pairs rows inside under
-    settle_left e = go (ltb 0 (paths_at arrays (n - 1))) refl (get_or inside (n - 1) false) refl e
-      where
-        go : (x : Bool) → ltb 0 (paths_at arrays (n - 1)) ≡ x → (y : Bool) → get_or inside (n - 1) false ≡ y → (x && (y || get_or under (n - 1) false)) ≡ false → SettledTo pairs₀ rows₀ inside₀ under₀ (n - 1) pairs rows inside under
-        go false q y r e = settle_bare (λ h. subst T q (lt→ltb 0 (paths_at arrays (n - 1)) h))
-        go true q false r e = settle_unmarked r e
-        go true q true r e = let z : ◌≡◌ {A = ℕ} 0 1 = cc in absurd (omega arith)
-
-  -- all edges: what was owed is marked
-  pub settle_all : (pairs₀ rows₀ inside₀ under₀ : List Bool) (i : ℕ) (pairs rows inside under : List Bool) → i ≤ 0 → SettledTo pairs₀ rows₀ inside₀ under₀ i pairs rows inside under → Settled arrays b pairs₀ rows₀ inside₀ under₀ pairs rows inside under
-  settle_all pairs₀ rows₀ inside₀ under₀ i pairs rows inside under e x =
-      record {
-        same = x.same;
-        in_order = x.in_order;
-        cover = x.cover;
-        marks = λ ts ls table G d p w. let y = x.owed ts ls table G d p w in (λ m. y.0 (inl m), λ m. ⊎_elim (λ z. z) (λ z. absurd (omega (arith, z.1, e))) (y.1 m));
-      }
+    pub settle_left : (0 < paths_at arrays (n - 1) → (get_or marks.inside (n - 1) false ≡ false) × (get_or marks.under (n - 1) false ≡ false)) → SettledTo pairs₀ marks₀ (n - 1) pairs marks
+    settle_left f = ⊎_elim (λ z. settle_bare (λ h. omega arith)) (λ h. settle_unmarked (f h).0 (f h).1) (eq-zero-or-pos (paths_at arrays (n - 1)))

@@ -10,7 +10,7 @@ use lib.Dec.{T}
 use lib.ListN.{length}
 use Rattle.tables.specs.Words.{Pair}
 use Rattle.tables.specs.Terms.{Term}
-use Rattle.tables.specs.LiteralTable.{Literal}
+use Rattle.tables.specs.declared.Literal.{Literal}
 use Rattle.tables.specs.declared.Side.{Side}
 use Rattle.tables.specs.declared.Side.TheVariants.{A, B}
 use Rattle.closure.specs.declared.Edge.{Edge}
@@ -26,6 +26,7 @@ use Rattle.clauses.specs.Clauses.{Clause, equals}
 use Rattle.clauses.specs.Factors.{Factor, factors}
 use Rattle.clauses.specs.Premises.{ends_of, path_clauses}
 use Rattle.clauses.specs.Meaning.{Premise, own, parent, PathClause, inside, whole, under}
+use Rattle.marking.specs.declared.marks.Marks.{Marks}
 use Rattle.marking.specs.Marks.{is_b, Reached, end_of, across, along, EdgeReached, EndOf, EdgeOf, PairWithin, Wants, Owed}
 use Rattle.clauses.proofs.Factors.{factors_stretch, factor_hop, hop_factor}
 use Rattle.clauses.proofs.Members.{factor_clause, whole_at, at_clause}
@@ -260,24 +261,24 @@ module _ (ts : List Term) (ls : List Literal) (table : List Term) (G : Graph) (s
         let t = edge_parents false e.0 (over e.0 e.1) (subst (EdgeReached table G inb p false) (sym e.3) r) in
         along b e.1 e.2 t.1 t.2
 
-    module _ (pairs inside' under' pairs'' inside'' under'' : List Bool) (n : ℕ) (within : PairWithin 511 p) where
+    module _ (pairs : List Bool) (marks : Marks) (pairs' : List Bool) (marks' : Marks) (n : ℕ) (within : PairWithin 511 p) where
       -- what is owed after the path is read was owed, or the path reaches it
-      pub wants_owed : Wants inb mode π pairs inside' under' pairs'' inside'' under'' → Owed table G inb pairs'' inside'' under'' n p → Owed table G inb pairs inside' under' n p ⊎ Reached table inb p mode π
+      pub wants_owed : Wants inb mode π pairs marks pairs' marks' → Owed table G inb pairs' marks' n p → Owed table G inb pairs marks n p ⊎ Reached table inb p mode π
       wants_owed w (inl m) = ⊎_elim (λ x. inl (inl x)) (λ x. inr (subst (λ (b : Bool). Reached table inb p b π) (sym x.0) (end_of x.1.1 x.1.2 x.1.3))) ((w.ends p within).0 m)
       wants_owed w (inr (k, less, inl (m, r))) = ⊎_elim (λ x. inl (inr (k, less, inl (x, r)))) (λ x. inr (across_edge k x r)) ((w.crossed k).0 m)
       wants_owed w (inr (k, less, inr (m, r))) = ⊎_elim (λ x. inl (inr (k, less, inr (x, r)))) (λ x. inr (along_edge k x.0 x.1 r)) ((w.followed k).0 m)
 
       -- what was owed still is
-      pub owed_kept : Wants inb mode π pairs inside' under' pairs'' inside'' under'' → Owed table G inb pairs inside' under' n p → Owed table G inb pairs'' inside'' under'' n p
+      pub owed_kept : Wants inb mode π pairs marks pairs' marks' → Owed table G inb pairs marks n p → Owed table G inb pairs' marks' n p
       owed_kept w (inl m) = inl ((w.ends p within).1 (inl m))
       owed_kept w (inr (k, less, inl (m, r))) = inr (k, less, inl ((w.crossed k).1 (inl m), r))
       owed_kept w (inr (k, less, inr (m, r))) = inr (k, less, inr ((w.followed k).1 (inl m), r))
 
       -- and what the path reaches, over edges below n, is owed
-      pub reached_owed : Wants inb mode π pairs inside' under' pairs'' inside'' under'' → ((h : Hop) → Memᴰ h π → length h.older < n) → Reached table inb p mode π → Owed table G inb pairs'' inside'' under'' n p
+      pub reached_owed : Wants inb mode π pairs marks pairs' marks' → ((h : Hop) → Memᴰ h π → length h.older < n) → Reached table inb p mode π → Owed table G inb pairs' marks' n p
       reached_owed w low r = go mode π refl refl r
         where
-          go : (b : Bool) (ρ : Path) → b ≡ mode → ρ ≡ π → Reached table inb p b ρ → Owed table G inb pairs'' inside'' under'' n p
+          go : (b : Bool) (ρ : Path) → b ≡ mode → ρ ≡ π → Reached table inb p b ρ → Owed table G inb pairs' marks' n p
           go b ρ eb e (end_of k c q) = inl ((w.ends p within).1 (inr (sym eb, subst (λ (τ : Path). EndOf inb τ p) e (_, k, c, q))))
           go b ρ eb e (across {h = h} m' c o r) =
               let m = subst (λ (τ : Path). Memᴰ h τ) e m' in

@@ -3,12 +3,12 @@ use mathlib.Core.Bool.{Bool, true, false}
 use mathlib.Core.List.{List}
 use mathlib.Core.Logic.{◌⊎◌, inl, inr, ⊎_elim, ◌↔◌}
 use mathlib.Core.Path.{◌≡◌, sym, ap, subst, ◌∙◌}
-use Prim.Native.Nat.{ℕ, ◌+◌, ◌*◌, ◌≤◌, ◌<◌}
+use Prim.Native.Nat.{ℕ, ◌+◌, ◌*◌, ◌≤◌, ◌<◌, min, max}
 use native.Mathlib.Omega.{arith}
 use lib.Dec.{T, eqb, eqb→eq, eqb_refl}
 use lib.ListN.{length, get_or, set, length-set}
 use lib.Seq.{get_or-set_same, get_or-set_other}
-use Rattle.tables.specs.Words.{Pair, pair}
+use Rattle.tables.specs.Words.{Pair}
 use Rattle.tables.proofs.Words.{passes, by_test}
 use Rattle.clauses.specs.Clauses.{between}
 use Rattle.marking.specs.Marks.{PairWithin, place_of, PairMarked, Marked, PairAdded}
@@ -47,13 +47,12 @@ one_place p q h k e =
 pub within_square : (p : Pair) → PairWithin 511 p → InSquare p
 within_square p h = (omega (arith, h.0, h.1), h.1)
 
--- [p] of two vertices
-pub between_below : (u v : ℕ) → u < v → between u v ≡ pair u v
-between_below u v h = ⊎_elim (λ c. c.1) (λ c. absurd (omega (arith, c.0))) (between_cases u v)
-
--- and where the first is not lower
-pub between_above : (u v : ℕ) → v ≤ u → between u v ≡ pair v u
-between_above u v h = ⊎_elim (λ c. absurd (omega (arith, c.0))) (λ c. c.1) (between_cases u v)
+-- [p] of two vertices has the lower one left
+pub between_ends : (u v : ℕ) → ((between u v).left ≡ min u v) × ((between u v).right ≡ max u v)
+between_ends u v =
+    let left = λ (p : Pair). p.left in
+    let right = λ (p : Pair). p.right in
+    ⊎_elim (λ c. (omega (arith, c.0, ap left c.1), omega (arith, c.0, ap right c.1))) (λ c. (omega (arith, c.0, ap left c.1), omega (arith, c.0, ap right c.1))) (between_cases u v)
 
 -- [p] of two vertices is in the square, the place is found by the lower one
 pub between_square : (u v : ℕ) → u < 511 → v < 511 → InSquare (between u v)
@@ -69,7 +68,6 @@ pair_added q pairs rows i j ei ej h f n =
     let more : (p : Pair) → PairWithin 511 p → PairMarked (set pairs i true) p ↔ (PairMarked pairs p ⊎ (p ≡ q)) = λ p w. let r = marked_more pairs i (place_of p) (omega (arith, ei, f)) in (λ x. ⊎_elim inl (λ e. inr (one_place p q (within_square p w) h (e ∙ ei))) (r.0 x), λ x. r.1 (⊎_elim inl (λ e. inr (ap place_of e ∙ sym ei)) x)) in
     record {
       same = length-set pairs i true;
-      rows_sized = length-set rows j true ∙ n;
       added = more;
       cover = λ c p w x. (marked_more rows j p.left (omega (arith, ej, h.0, n))).1 (⊎_elim (λ y. inl (c p w y)) (λ e. inr (ap (λ (z : Pair). z.left) e ∙ sym ej)) ((more p w).0 x));
     }

@@ -3,7 +3,7 @@ use Rattle.std.specs.Prelude.{Bool, true, false, List, ◌⊎◌, ◌↔◌, ◌
 use Rattle.tables.specs.Words.{Pair}
 use Rattle.tables.specs.Terms.{Term, term_at}
 use Rattle.tables.specs.Parts.{LowerArguments}
-use Rattle.tables.specs.LiteralTable.{Literal}
+use Rattle.tables.specs.declared.Literal.{Literal}
 use Rattle.closure.specs.declared.Edge.{Edge}
 use Rattle.closure.specs.declared.EdgeKind.{EdgeKind}
 use Rattle.closure.specs.declared.EdgeKind.TheVariants.{Basic, Derived}
@@ -11,7 +11,9 @@ use Rattle.closure.specs.Graph.{Graph}
 use Rattle.closure.specs.Forests.{Each}
 use Rattle.graphs.specs.Rooting.{RootedBy}
 use Rattle.closure.proofs.Walking.Invariant.{SoundGraph}
-use Rattle.marking.specs.Marks.{is_b, PairWithin, PairMarked, Covered, InOrder, EdgeReached, Owed}
+use Rattle.marking.specs.declared.drawing.Drawing.{Drawing}
+use Rattle.marking.specs.declared.marks.Marks.{Marks}
+use Rattle.marking.specs.Marks.{is_b, PairWithin, PairMarked, Covered, EdgeReached, Owed}
 
 -- the edge is derived
 abbrev pub is_derived : EdgeKind → Bool
@@ -37,22 +39,6 @@ pub record EdgeAt (table : List Term) (inb : List Bool) (places parents : List �
   pub left_at : (k : ℕ) → k < get_or places (length G) 0 → get_or parents (8 * length G + k) 0 ≡ get_or (term_at table e.left).arguments k 0
   pub right_at : (k : ℕ) → k < get_or places (length G) 0 → get_or parents (8 * length G + 4 + k) 0 ≡ get_or (term_at table e.right).arguments k 0
 
--- The arrays that the clause layer is lent. For each vertex the way to its root; for each edge whether its colour is B, how many parent paths it has,
--- and their ends, four places for those at the left end's arguments and four for those at the right end's.
-pub record Drawing : Type 0 where
-  pub toward : List ℕ
-  pub by : List ℕ
-  pub rank : List ℕ
-  pub inb : List Bool
-  pub places : List ℕ
-  pub parents : List ℕ
-  pub count : ℕ
-
--- the arrays, lent one by one
-abbrev pub drawing : List ℕ → List ℕ → List ℕ → List Bool → List ℕ → List ℕ → ℕ → Drawing
-drawing toward by rank inb places parents count =
-    record { toward = toward; by = by; rank = rank; inb = inb; places = places; parents = parents; count = count }
-
 -- The arrays hold a graph as the steps make it, rooted, and the ends of its edges' parent paths.
 pub record Drawn (arrays : Drawing) (ts : List Term) (ls : List Literal) (table : List Term) (G : Graph) : Type 0 where
   pub sound : SoundGraph ts ls table G
@@ -61,7 +47,7 @@ pub record Drawn (arrays : Drawing) (ts : List Term) (ls : List Literal) (table 
   pub counted : length G ≡ arrays.count
   pub few : arrays.count ≤ 510
   pub arity : (v : ℕ) → v < length table → length (term_at table v).arguments ≤ 4
-  pub rooted : RootedBy G arrays.toward arrays.by arrays.rank
+  pub rooted : RootedBy G arrays.forest
   pub edges : Each (EdgeAt table arrays.inb arrays.places arrays.parents) G
 
 -- they hold some graph, and a square of so many marks has a row for each of its vertices
@@ -70,15 +56,13 @@ DrawnSome arrays size =
     (ts : List Term) × (ls : List Literal) × (table : List Term) × (G : Graph) × Drawn arrays ts ls table G × (511 * length table ≤ size)
 
 -- the parent paths of edge number i are read
-pub record EdgeSettled (arrays : Drawing) (i : ℕ) (b whole : Bool) (pairs rows inside under pairs' rows' inside' under' : List Bool) : Type 0 where
+pub record EdgeSettled (arrays : Drawing) (i : ℕ) (b whole : Bool) (pairs : List Bool) (marks : Marks) (pairs' : List Bool) (marks' : Marks) : Type 0 where
   pub same : length pairs' ≡ length pairs
-  pub in_order : InOrder rows' inside' under'
-  pub cover : Covered pairs rows → Covered pairs' rows'
-  pub owed : (ts : List Term) (ls : List Literal) (table : List Term) (G : Graph) → Drawn arrays ts ls table G → (p : Pair) → PairWithin 511 p → Owed table G b pairs' inside' under' i p ↔ (Owed table G b pairs inside under i p ⊎ EdgeReached table G b p whole i)
+  pub cover : Covered pairs marks.rows → Covered pairs' marks'.rows
+  pub owed : (ts : List Term) (ls : List Literal) (table : List Term) (G : Graph) → Drawn arrays ts ls table G → (p : Pair) → PairWithin 511 p → Owed table G b pairs' marks' i p ↔ (Owed table G b pairs marks i p ⊎ EdgeReached table G b p whole i)
 
 -- the parent paths of all marked edges are read: what was owed is marked, and nothing else
-pub record Settled (arrays : Drawing) (b : Bool) (pairs rows inside under pairs' rows' inside' under' : List Bool) : Type 0 where
+pub record Settled (arrays : Drawing) (b : Bool) (pairs : List Bool) (marks : Marks) (pairs' : List Bool) (marks' : Marks) : Type 0 where
   pub same : length pairs' ≡ length pairs
-  pub in_order : InOrder rows' inside' under'
-  pub cover : Covered pairs rows → Covered pairs' rows'
-  pub marks : (ts : List Term) (ls : List Literal) (table : List Term) (G : Graph) → Drawn arrays ts ls table G → (p : Pair) → PairWithin 511 p → PairMarked pairs' p ↔ Owed table G b pairs inside under arrays.count p
+  pub cover : Covered pairs marks.rows → Covered pairs' marks'.rows
+  pub marked : (ts : List Term) (ls : List Literal) (table : List Term) (G : Graph) → Drawn arrays ts ls table G → (p : Pair) → PairWithin 511 p → PairMarked pairs' p ↔ Owed table G b pairs marks arrays.count p

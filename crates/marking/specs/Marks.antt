@@ -1,5 +1,5 @@
 -- What the clause layer marks: the equalities that a path's clauses and premises are made of, and the edges whose parent paths are still to be read.
-use Rattle.std.specs.Prelude.{Bool, true, false, not, ◌⊎◌, ◌↔◌, ◌≡◌, ℕ, suc, ◌+◌, ◌*◌, ◌≤◌, ◌<◌, T, length, get_or}
+use Rattle.std.specs.Prelude.{Bool, true, false, not, ◌⊎◌, ◌↔◌, ◌≡◌, ℕ, suc, ◌+◌, ◌*◌, ◌≤◌, ◌<◌, T, length, get_or, replicate}
 use mathlib.Core.List.{List, [], ◌∷◌, Memᴰ}
 use Rattle.tables.specs.Words.{Pair}
 use Rattle.tables.specs.Terms.{Term}
@@ -7,8 +7,10 @@ use Rattle.tables.specs.declared.Side.{Side}
 use Rattle.tables.specs.declared.Side.TheVariants.{A, B}
 use Rattle.closure.specs.Graph.{Graph, Hop, Path, parent_paths}
 use Rattle.closure.specs.Walks.{HopOf}
+use Rattle.graphs.specs.declared.paths.Trail.{Trail}
 use Rattle.clauses.specs.Factors.{Factor, factors}
 use Rattle.clauses.specs.Premises.{ends_of}
+use Rattle.marking.specs.declared.marks.Marks.{Marks}
 
 -- the colour is B
 abbrev pub is_b : Side → Bool
@@ -54,83 +56,75 @@ PairMarked pairs p = T (get_or pairs (place_of p) false)
 abbrev pub Marked : List Bool → ℕ → Type 0
 Marked marks k = T (get_or marks k false)
 
+-- before the first path is read nothing is marked
+abbrev pub no_marks : Marks
+no_marks = record { rows = replicate 511 false; inside = replicate 510 false; under = replicate 510 false }
+
 -- what reading a path marks: its factors' ends where they count, the edges of the other colour, and where clauses are read those of A too
-pub record Wants (inb whole : Bool) (π : Path) (pairs inside under pairs' inside' under' : List Bool) : Type 0 where
+pub record Wants (inb whole : Bool) (π : Path) (pairs : List Bool) (marks : Marks) (pairs' : List Bool) (marks' : Marks) : Type 0 where
   pub ends : (p : Pair) → PairWithin 511 p → PairMarked pairs' p ↔ (PairMarked pairs p ⊎ ((whole ≡ true) × EndOf inb π p))
-  pub crossed : (k : ℕ) → Marked inside' k ↔ (Marked inside k ⊎ EdgeOf (not inb) π k)
-  pub followed : (k : ℕ) → Marked under' k ↔ (Marked under k ⊎ ((inb ≡ false) × EdgeOf inb π k))
+  pub crossed : (k : ℕ) → Marked marks'.inside k ↔ (Marked marks.inside k ⊎ EdgeOf (not inb) π k)
+  pub followed : (k : ℕ) → Marked marks'.under k ↔ (Marked marks.under k ⊎ ((inb ≡ false) × EdgeOf inb π k))
 
 -- what is marked, and what the marked edges below n still contribute
-abbrev pub Owed : List Term → Graph → Bool → List Bool → List Bool → List Bool → ℕ → Pair → Type 0
-Owed table G inb pairs inside under n p =
-    PairMarked pairs p ⊎ ((k : ℕ) × (k < n) × ((Marked inside k × EdgeReached table G inb p true k) ⊎ (Marked under k × EdgeReached table G inb p false k)))
+abbrev pub Owed : List Term → Graph → Bool → List Bool → Marks → ℕ → Pair → Type 0
+Owed table G inb pairs marks n p =
+    PairMarked pairs p ⊎ ((k : ℕ) × (k < n) × ((Marked marks.inside k × EdgeReached table G inb p true k) ⊎ (Marked marks.under k × EdgeReached table G inb p false k)))
 
 -- ---- a path as the code walks it: the vertices it stands on, and the numbers of its edges
 
 -- the stretch of a trail from a place on to its end `hi` walks these hops
-pub data Trailed (inb : List Bool) (stops edges : List ℕ) (hi : ℕ) : ℕ → Path → Type 0 where
-  done : {lo : ℕ} → lo ≡ hi → Trailed inb stops edges hi lo []
-  step : {lo : ℕ} {h : Hop} {π : Path} → get_or stops lo 0 ≡ h.from → get_or stops (suc lo) 0 ≡ h.to → get_or edges lo 0 ≡ length h.older → get_or inb (get_or edges lo 0) false ≡ is_b h.colour → Trailed inb stops edges hi (suc lo) π → Trailed inb stops edges hi lo (h ∷ π)
+pub data Trailed (inb : List Bool) (trail : Trail) (hi : ℕ) : ℕ → Path → Type 0 where
+  done : {lo : ℕ} → lo ≡ hi → Trailed inb trail hi lo []
+  step : {lo : ℕ} {h : Hop} {π : Path} → get_or trail.stops lo 0 ≡ h.from → get_or trail.stops (suc lo) 0 ≡ h.to → get_or trail.edges lo 0 ≡ length h.older → get_or inb (get_or trail.edges lo 0) false ≡ is_b h.colour → Trailed inb trail hi (suc lo) π → Trailed inb trail hi lo (h ∷ π)
 
 -- a trail within the arrays
-pub record Within (stops edges : List ℕ) (lo hi : ℕ) : Type 0 where
+pub record Within (trail : Trail) (lo hi : ℕ) : Type 0 where
   pub forward : lo ≤ hi
   pub short : hi ≤ 510
-  pub stops_low : (k : ℕ) → k ≤ hi → get_or stops k 0 < 511
-  pub edges_low : (k : ℕ) → k < hi → get_or edges k 0 < 510
+  pub stops_low : (k : ℕ) → k ≤ hi → get_or trail.stops k 0 < 511
+  pub edges_low : (k : ℕ) → k < hi → get_or trail.edges k 0 < 510
 
 -- the stretch of one colour from place lo on ends at r
-pub record StretchEnd (inb : List Bool) (edges : List ℕ) (lo hi r : ℕ) : Type 0 where
+pub record StretchEnd (inb : List Bool) (trail : Trail) (lo hi r : ℕ) : Type 0 where
   pub begins : lo < r
   pub inside : r ≤ hi
-  pub one_colour : (k : ℕ) → lo ≤ k → k < r → get_or inb (get_or edges k 0) false ≡ get_or inb (get_or edges lo 0) false
-  pub longest : (r ≡ hi) ⊎ (get_or inb (get_or edges r 0) false ≡ get_or inb (get_or edges lo 0) false → ⊥)
+  pub one_colour : (k : ℕ) → lo ≤ k → k < r → get_or inb (get_or trail.edges k 0) false ≡ get_or inb (get_or trail.edges lo 0) false
+  pub longest : (r ≡ hi) ⊎ (get_or inb (get_or trail.edges r 0) false ≡ get_or inb (get_or trail.edges lo 0) false → ⊥)
 
 -- whatever is marked in the square has its row marked
 abbrev pub Covered : List Bool → List Bool → Type 0
 Covered pairs rows = (p : Pair) → PairWithin 511 p → PairMarked pairs p → Marked rows p.left
 
 -- a square of so many marks has the row of each stop up to place hi
-pub record RowsOf (size : ℕ) (stops : List ℕ) (hi : ℕ) : Type 0 where
-  pub row : (k : ℕ) → k ≤ hi → 511 * get_or stops k 0 + 511 ≤ size
-
--- the marks beside the square are in order: one for each row that it can have, and for each edge
-pub record InOrder (rows inside under : List Bool) : Type 0 where
-  pub rows_sized : length rows ≡ 511
-  pub inside_sized : length inside ≡ 510
-  pub under_sized : length under ≡ 510
+pub record RowsOf (size : ℕ) (trail : Trail) (hi : ℕ) : Type 0 where
+  pub row : (k : ℕ) → k ≤ hi → 511 * get_or trail.stops k 0 + 511 ≤ size
 
 -- one pair more is marked, and its row
 pub record PairAdded (q : Pair) (pairs rows pairs' rows' : List Bool) : Type 0 where
   pub same : length pairs' ≡ length pairs
-  pub rows_sized : length rows' ≡ 511
   pub added : (p : Pair) → PairWithin 511 p → PairMarked pairs' p ↔ (PairMarked pairs p ⊎ (p ≡ q))
   pub cover : Covered pairs rows → Covered pairs' rows'
 
 -- the ends of a stretch's factors of a colour are marked too
-pub record FactorsAdded (inb : List Bool) (stops edges : List ℕ) (lo hi : ℕ) (b : Bool) (pairs rows pairs' rows' : List Bool) : Type 0 where
+pub record FactorsAdded (inb : List Bool) (trail : Trail) (lo hi : ℕ) (b : Bool) (pairs rows pairs' rows' : List Bool) : Type 0 where
   pub same : length pairs' ≡ length pairs
-  pub rows_sized : length rows' ≡ 511
-  pub added : (π : Path) → Trailed inb stops edges hi lo π → (p : Pair) → PairWithin 511 p → PairMarked pairs' p ↔ (PairMarked pairs p ⊎ EndOf b π p)
+  pub added : (π : Path) → Trailed inb trail hi lo π → (p : Pair) → PairWithin 511 p → PairMarked pairs' p ↔ (PairMarked pairs p ⊎ EndOf b π p)
   pub cover : Covered pairs rows → Covered pairs' rows'
 
 -- the edges of a stretch of a colour are marked too
-pub record EdgesAdded (inb : List Bool) (stops edges : List ℕ) (lo hi : ℕ) (b : Bool) (marks marks' : List Bool) : Type 0 where
-  pub sized : length marks' ≡ 510
-  pub added : (π : Path) → Trailed inb stops edges hi lo π → (k : ℕ) → Marked marks' k ↔ (Marked marks k ⊎ EdgeOf b π k)
+abbrev pub EdgesAdded : List Bool → Trail → ℕ → ℕ → Bool → List Bool → List Bool → Type 0
+EdgesAdded inb trail lo hi b marks marks' = (π : Path) → Trailed inb trail hi lo π → (k : ℕ) → Marked marks' k ↔ (Marked marks k ⊎ EdgeOf b π k)
 
 -- what a stretch asks for is marked too
-pub record Wanted (inb : List Bool) (stops edges : List ℕ) (lo hi : ℕ) (b whole : Bool) (pairs rows inside under pairs' rows' inside' under' : List Bool) : Type 0 where
+pub record Wanted (inb : List Bool) (trail : Trail) (lo hi : ℕ) (b whole : Bool) (pairs : List Bool) (marks : Marks) (pairs' : List Bool) (marks' : Marks) : Type 0 where
   pub same : length pairs' ≡ length pairs
-  pub in_order : InOrder rows' inside' under'
-  pub cover : Covered pairs rows → Covered pairs' rows'
-  pub wants : (π : Path) → Trailed inb stops edges hi lo π → Wants b whole π pairs inside under pairs' inside' under'
+  pub cover : Covered pairs marks.rows → Covered pairs' marks'.rows
+  pub wants : (π : Path) → Trailed inb trail hi lo π → Wants b whole π pairs marks pairs' marks'
 
 -- what the stretches before and after the middle one ask for is marked too, one after the other
-pub record OuterWanted (inb : List Bool) (stops edges : List ℕ) (lo hi hops : ℕ) (b : Bool) (pairs rows inside under pairs' rows' inside' under' : List Bool) : Type 0 where
+pub record OuterWanted (inb : List Bool) (trail : Trail) (lo hi : ℕ) (b : Bool) (pairs : List Bool) (marks : Marks) (pairs' : List Bool) (marks' : Marks) : Type 0 where
   pub pairs₁ : List Bool
-  pub rows₁ : List Bool
-  pub inside₁ : List Bool
-  pub under₁ : List Bool
-  pub before : Wanted inb stops edges 0 lo b b pairs rows inside under pairs₁ rows₁ inside₁ under₁
-  pub after : Wanted inb stops edges hi hops b b pairs₁ rows₁ inside₁ under₁ pairs' rows' inside' under'
+  pub marks₁ : Marks
+  pub before : Wanted inb trail 0 lo b b pairs marks pairs₁ marks₁
+  pub after : Wanted inb trail hi trail.hops b b pairs₁ marks₁ pairs' marks'

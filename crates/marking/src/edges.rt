@@ -10,7 +10,7 @@ ghost use Rattle.marking.specs.Drawn.{is_derived, PartsAt};
 use closure::{Edge, EdgeKind};
 use tables::Side;
 
-// What the edges hold, a column for each part, under the edge's number.
+// What the edges hold, a column for each part, under the edge's number: `columns_of` promises each part, and the layer runs along the colours alone.
 #[derive(Clone, Copy)]
 pub struct Columns {
     pub lefts: [u16; 510],
@@ -19,49 +19,28 @@ pub struct Columns {
     pub derived: [bool; 510],
 }
 
-// Whether an edge's colour is B.
-fn is_b(colour: Side) -> bool
-    ensures { result ≡ is_b colour }
-{
-    match colour {
-        Side::A => false,
-        Side::B => true,
-    }
-}
-
-// Whether an edge is derived.
-fn is_derived(kind: EdgeKind) -> bool
-    ensures { result ≡ is_derived kind }
-{
-    match kind {
-        EdgeKind::Basic => false,
-        EdgeKind::Derived => true,
-    }
-}
-
 impl Columns {
     // Before the first edge.
     fn none() -> Columns
         ensures { (result.lefts ≡ replicate 510 0) × (result.rights ≡ replicate 510 0) × (result.inb ≡ replicate 510 false) × (result.derived ≡ replicate 510 false) }
     {
         Columns {
-            lefts: [0u16; 510],
-            rights: [0u16; 510],
+            lefts: [0; 510],
+            rights: [0; 510],
             inb: [false; 510],
             derived: [false; 510],
         }
     }
 
     // The parts of one edge, put under its number.
-    fn with_edge(mut self, i: usize, left: u16, right: u16, colour: Side, kind: EdgeKind) -> Columns
+    fn put(&mut self, i: usize, e: Edge)
         requires { i < 510 }
-        ensures { (result.lefts ≡ set self.lefts i left) × (result.rights ≡ set self.rights i right) × (result.inb ≡ set self.inb i (is_b colour)) × (result.derived ≡ set self.derived i (is_derived kind)) }
+        ensures { (self.new.lefts ≡ set self.old.lefts i e.left) × (self.new.rights ≡ set self.old.rights i e.right) × (self.new.inb ≡ set self.old.inb i (is_b e.colour)) × (self.new.derived ≡ set self.old.derived i (is_derived e.kind)) }
     {
-        self.lefts[i] = left;
-        self.rights[i] = right;
-        self.inb[i] = is_b(colour);
-        self.derived[i] = is_derived(kind);
-        self
+        self.lefts[i] = e.left;
+        self.rights[i] = e.right;
+        self.inb[i] = e.colour == Side::B;
+        self.derived[i] = e.kind == EdgeKind::Derived;
     }
 }
 
@@ -71,11 +50,8 @@ pub fn columns_of(edges: &[Edge], count: usize) -> Columns
     ensures { Each (PartsAt result.lefts result.rights result.inb result.derived) (newest_first count edges.now) }
 {
     let mut c = Columns::none();
-    let mut i = 0;
-    while i < count {
-        let e = edges[i];
-        c = c.with_edge(i, e.left, e.right, e.colour, e.kind);
-        i += 1;
+    for i in 0..count {
+        c.put(i, edges[i]);
     }
     c
 }

@@ -3,6 +3,7 @@
 
 #![tactic(auto)]
 
+pub mod drawing;
 pub mod edges;
 pub mod marks;
 pub mod settling;

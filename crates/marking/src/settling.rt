@@ -1,85 +1,46 @@
 // The parent paths of marked edges, read from the newest edge to the oldest: parent paths have older edges only, so one pass is enough.
-ghost use Rattle.std.specs.Prelude.{◌&&◌, ◌||◌, ◌≡◌, ◌<◌, length};
-ghost use Rattle.marking.specs.Drawn.{drawing, DrawnSome, EdgeSettled, Settled};
-ghost use Rattle.marking.specs.Marks.{InOrder};
+ghost use Rattle.std.specs.Prelude.{◌<◌, length};
+ghost use Rattle.marking.specs.Drawn.{DrawnSome, EdgeSettled, Settled};
 
-use super::marks;
-use graphs::paths;
+use super::drawing::Drawing;
+use super::marks::{Marks, want_along};
+use graphs::paths::Trail;
 
-// What the parent paths of one edge ask for. The paths are laid in the same two arrays, one after the other.
-fn settle_edge<'a>(
-    toward: &'a [u16; 511],
-    by: &'a [u16; 511],
-    rank: &'a [u16; 511],
-    inb: &'a [bool; 510],
-    places: &'a [u8; 510],
-    parents: &'a [u16; 4080],
-    count: usize,
+// What the parent paths of one edge ask for. The paths are laid in the same trail, one after the other.
+fn settle_edge(
+    drawn: &Drawing,
     i: usize,
     b: bool,
     whole: bool,
     pairs: &mut [bool],
-    rows: &mut [bool; 511],
-    inside: &mut [bool; 510],
-    under: &mut [bool; 510],
+    marks: &mut Marks,
 )
-    requires drawn_some { DrawnSome (drawing toward.now by.now rank.now inb.now places.now parents.now count) (length pairs.old) }
-    requires in_order { InOrder rows.old inside.old under.old }
-    requires i_lt_count { i < count }
-    ensures { EdgeSettled (drawing toward.now by.now rank.now inb.now places.now parents.now count) i b whole pairs.old rows.old inside.old under.old pairs.new rows.new inside.new under.new }
+    requires drawn_some { DrawnSome drawn.now (length pairs.old) }
+    requires i_lt_count { i < drawn.now.count }
+    ensures { EdgeSettled drawn.now i b whole pairs.old marks.old pairs.new marks.new }
 {
-    let arity = places[i] as usize;
-    let stops = &mut [0u16; 511];
-    let ways = &mut [0u16; 511];
-    let mut j = 0;
-    while j < arity {
-        let u = parents[8 * i + j];
-        let v = parents[8 * i + 4 + j];
-        let n = paths::lay_path(toward, by, rank, u, v, stops, ways);
-        marks::want_along(inb, stops, ways, 0, n, b, whole, pairs, rows, inside, under);
-        j += 1;
+    let trail = &mut Trail {
+        stops: [0; 511],
+        edges: [0; 511],
+        hops: 0,
+    };
+    for j in 0..drawn.places[i] as usize {
+        let u = drawn.parents[8 * i + j];
+        let v = drawn.parents[8 * i + 4 + j];
+        drawn.forest.lay_path(u, v, trail);
+        want_along(&drawn.inb, trail, 0, trail.hops, b, whole, pairs, marks);
     }
 }
 
-// The parent paths of an edge that has any are read where a mark asks for them.
-fn asked(any: bool, inside: bool, under: bool) -> bool
-    ensures { result ≡ (any && (inside || under)) }
+// From the newest edge to the oldest, where an edge has parent paths and a mark asks for them: what they ask for, until all that is owed is marked.
+pub fn settle(drawn: &Drawing, b: bool, pairs: &mut [bool], marks: &mut Marks)
+    requires { DrawnSome drawn.now (length pairs.old) }
+    ensures { Settled drawn.now b pairs.old marks.old pairs.new marks.new }
 {
-    if any {
-        if inside { true } else { under }
-    } else {
-        false
-    }
-}
-
-// From the newest edge to the oldest: what the parent paths of marked edges ask for, until all that is owed is marked.
-pub fn settle<'a>(
-    toward: &'a [u16; 511],
-    by: &'a [u16; 511],
-    rank: &'a [u16; 511],
-    inb: &'a [bool; 510],
-    places: &'a [u8; 510],
-    parents: &'a [u16; 4080],
-    count: usize,
-    b: bool,
-    pairs: &mut [bool],
-    rows: &mut [bool; 511],
-    inside: &mut [bool; 510],
-    under: &mut [bool; 510],
-)
-    requires drawn_some { DrawnSome (drawing toward.now by.now rank.now inb.now places.now parents.now count) (length pairs.old) }
-    requires in_order { InOrder rows.old inside.old under.old }
-    ensures { Settled (drawing toward.now by.now rank.now inb.now places.now parents.now count) b pairs.old rows.old inside.old under.old pairs.new rows.new inside.new under.new }
-{
-    let mut i = count;
-    while 0 < i {
-        i -= 1;
-        let whole = inside[i];
-        if asked(0 < places[i], whole, under[i]) {
-            settle_edge(
-                toward, by, rank, inb, places, parents, count, i, b, whole, pairs, rows, inside,
-                under,
-            );
+    for i in (0..drawn.count).rev() {
+        let whole = marks.inside[i];
+        if drawn.places[i] > 0 && (whole || marks.under[i]) {
+            settle_edge(drawn, i, b, whole, pairs, marks);
         }
     }
 }
