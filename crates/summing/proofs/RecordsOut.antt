@@ -1,19 +1,23 @@
--- Records written one behind the other: a record's eight stores, and the bytes of all where they fit.
+-- Records written one behind the other: the place of a record, and the bytes of all where they fit.
 use mathlib.Core.Bool.{Bool, true, false, cond}
 use mathlib.Core.List.Memᴰ
 use mathlib.Core.List.{List, [], ◌∷◌, ◌++◌, map, flat_map, append_assoc, append-nil, map-append, Memᴰ}
 use mathlib.Core.Logic.{◌⊎◌, inl, inr, ⊎_elim, ◌↔◌}
 use mathlib.Core.Path.{◌≡◌, refl, sym, ap, ap₂, subst, ◌∙◌}
-use Prim.Native.Nat.{ℕ, suc, ◌+◌, ◌*◌, ◌/◌, ◌%◌, ◌≤◌, ◌<◌}
+use Prim.Native.Nat.{ℕ, ◌+◌, ◌*◌, ◌≤◌, ◌<◌}
 use native.Mathlib.Omega.{arith}
 use borrow.Author.Tests.{leb-true, leb-false, le-leb, lt-leb, lt-ltb, le-ltb}
+use borrow.Rule.Slice.PartMut.{put_mid}
 use lib.Dec.{T, leb, ltb, ltb→lt, not_T}
-use lib.ListN.{length, get_or, set, take, drop, length-append, length-drop, length-map, length-set}
-use lib.Seq.{sets-eq, length-take-le, take_at, drop-append-add, drop-drop, get_or-set_same, get_or-set_other}
-use Rattle.tables.specs.Words.{Pair, pair, below, keep}
+use lib.ListN.{length, get_or, set, take, drop, length-append, length-drop, length-set}
+use lib.Seq.{length-take-le, take_at, drop-append-add, drop-drop, get_or-set_same, get_or-set_other}
+use Rattle.std.proofs.lemmas.List.{take_all}
+use Rattle.std.proofs.lemmas.Slice.{put_mid-paste}
+use Rattle.tables.specs.Words.{Pair, pair, below, keep, pairs_below}
 use Rattle.tables.proofs.Words.{by_test, below_mem, same_test, keep_mem, failed, keep_empty, keep_passes, keep_fails, keep_append, keep_none, keep_agree, below_more, flat_map_below_none, flat_map_below_more, pairs_below_rows}
 use Rattle.clauses.specs.Records.{clause_record}
-use Rattle.summing.specs.Writing.{put_record, put_records, marked, row_pairs, PremisesOut, RowCleared, RowOut, AllOut}
+use Rattle.summing.specs.declared.writing.Records.{Records}
+use Rattle.summing.specs.Writing.{put_record, put_records, marked, row_pairs, Sheet, sheet_of, Lent, RecordsPut, premise_records, RowCleared, RowOut, AllOut}
 use Rattle.marking.specs.Marks.{PairWithin, place_of, PairMarked, Marked, Covered}
 use Rattle.marking.proofs.Squares.{same_or_not, one_place, within_square}
 use Rattle.clauses.proofs.Records.{record_length}
@@ -28,27 +32,12 @@ pub put_not : (at : ℕ) (r out : List ℕ) → length out < 8 * at + 8 → put_
 unfolding put_record
 put_not at r out h = ap (λ (b : Bool). cond b (take (8 * at) out ++ r ++ drop (8 * at + 8) out) out) (lt-leb _ _ h)
 
--- the high byte of a number of two bytes
-high_byte : (n : ℕ) → n < 65536 → n / 256 ≡ n / 256 % 256
-high_byte n h = omega arith
-
--- the eight stores of a record
-pub put_stores : (out : List ℕ) (at kind l r : ℕ) → l < 65536 → r < 65536 → 8 * at + 8 ≤ length out → set (set (set (set (set (set (set (set out (8 * at) kind) (8 * at + 1) 0) (8 * at + 2) (l % 256)) (8 * at + 3) (l / 256)) (8 * at + 4) (r % 256)) (8 * at + 5) (r / 256)) (8 * at + 6) 0) (8 * at + 7) 0 ≡ put_record at (clause_record kind (pair l r)) out
-unfolding clause_record
-put_stores out at kind l r hl hr h =
-    let i = 8 * at in
-    let bytes = kind ∷ 0 ∷ (l % 256) ∷ (l / 256) ∷ (r % 256) ∷ (r / 256) ∷ 0 ∷ 0 ∷ [] in
-    let e1 : 8 * at + 1 ≡ suc i = omega arith in
-    let e2 : 8 * at + 2 ≡ suc (suc i) = omega arith in
-    let e3 : 8 * at + 3 ≡ suc (suc (suc i)) = omega arith in
-    let e4 : 8 * at + 4 ≡ suc (suc (suc (suc i))) = omega arith in
-    let e5 : 8 * at + 5 ≡ suc (suc (suc (suc (suc i)))) = omega arith in
-    let e6 : 8 * at + 6 ≡ suc (suc (suc (suc (suc (suc i))))) = omega arith in
-    let e7 : 8 * at + 7 ≡ suc (suc (suc (suc (suc (suc (suc i)))))) = omega arith in
-    (λ j. set (set (set (set (set (set (set (set out i kind) (e1 j) 0) (e2 j) (l % 256)) (e3 j) (l / 256)) (e4 j) (r % 256)) (e5 j) (r / 256)) (e6 j) 0) (e7 j) 0) ∙
-    sets-eq bytes out i h ∙
-    ap₂ (λ (x y : ℕ). take i out ++ (kind ∷ 0 ∷ (l % 256) ∷ x ∷ (r % 256) ∷ y ∷ 0 ∷ 0 ∷ []) ++ drop (8 * at + 8) out) (high_byte l hl) (high_byte r hr) ∙
-    sym (put_fits at (clause_record kind (pair l r)) out h)
+-- a record copied over its place
+pub put_over : (at k : ℕ) (bytes r out : List ℕ) → bytes ≡ r → k ≡ 8 → length r ≡ 8 → 8 * at + 8 ≤ length out → put_mid (8 * at) k out bytes ≡ put_record at r out
+put_over at k bytes r out b q e h =
+    put_mid-paste (8 * at) k out bytes r 8 b (sym q) (sym e) ∙
+    ap (λ (x : List ℕ). take (8 * at) out ++ x ++ drop (8 * at + 8) out) (take_all 8 r (omega (arith, e))) ∙
+    sym (put_fits at r out h)
 
 -- ---- one behind the other
 
@@ -59,11 +48,6 @@ put_append at [] more out = ap (λ (n : ℕ). put_records n more out) (omega ari
 put_append at (r ∷ rs) more out =
     put_append (at + 1) rs more (put_record at r out) ∙
     ap (λ (n : ℕ). put_records n more (put_records (at + 1) rs (put_record at r out))) (omega arith)
-
--- one record more
-pub put_more : (at : ℕ) (rs : List (List ℕ)) (r out : List ℕ) → put_records at (rs ++ (r ∷ [])) out ≡ put_record (at + length rs) r (put_records at rs out)
-unfolding put_records
-put_more at rs r out = put_append at rs (r ∷ []) out
 
 -- no record changes how long the buffer is
 pub put_length : (at : ℕ) (r out : List ℕ) → length r ≡ 8 → length (put_record at r out) ≡ length out
@@ -78,9 +62,41 @@ unfolding put_records
 puts_length at [] out e = refl
 puts_length at (r ∷ rs) out e = puts_length (at + 1) rs (put_record at r out) (λ x m. e x (Memᴰ.tail m)) ∙ put_length at r out (e r (Memᴰ.head refl))
 
--- so premises do not
-pub premises_length : (ps : List Pair) (at : ℕ) (out : List ℕ) (n : ℕ) (out' : List ℕ) → PremisesOut ps at out n out' → length out' ≡ length out
-premises_length ps at out n out' o = ap length o.bytes ∙ puts_length at (map (clause_record 1) ps) out (λ r m. let q = Memᴰ.of_map (clause_record 1) ps m in ap length (sym q.2) ∙ record_length 1 q.0)
+-- no record
+pub records_none : (b : Sheet) → RecordsPut [] b b
+unfolding put_records
+records_none b = record { count = omega arith; bytes = refl }
+
+-- one record
+pub records_one : (r : List ℕ) (b b' : Sheet) → b'.count ≡ b.count + 1 → b'.bytes ≡ put_record b.count r b.bytes → RecordsPut (r ∷ []) b b'
+unfolding put_records
+records_one r b b' c e = record { count = c; bytes = e }
+
+-- the same record under another name
+pub record_as : {r r' : List ℕ} {b b' : Sheet} → r ≡ r' → RecordsPut (r ∷ []) b b' → RecordsPut (r' ∷ []) b b'
+record_as {b = b} {b' = b'} e x = subst (λ (y : List ℕ). RecordsPut (y ∷ []) b b') e x
+
+-- some records and then others
+pub records_append : (rs more : List (List ℕ)) (b b' b'' : Sheet) → RecordsPut rs b b' → RecordsPut more b' b'' → RecordsPut (rs ++ more) b b''
+records_append rs more b b' b'' x y =
+    record {
+      count = omega (arith, x.count, y.count, length-append rs more);
+      bytes = y.bytes ∙ ap₂ (λ (k : ℕ) (o : List ℕ). put_records k more o) x.count x.bytes ∙ sym (put_append b.count rs more b.bytes);
+    }
+
+-- some premises and then others
+pub premises_append : (ps qs : List Pair) (b b' b'' : Sheet) → RecordsPut (premise_records ps) b b' → RecordsPut (premise_records qs) b' b'' → RecordsPut (premise_records (ps ++ qs)) b b''
+premises_append ps qs b b' b'' x y =
+    subst (λ (rs : List (List ℕ)). RecordsPut rs b b'') (sym (map-append (clause_record 1) ps qs)) (records_append (premise_records ps) (premise_records qs) b b' b'' x y)
+
+-- records do not change how long the buffer is
+pub records_length : (rs : List (List ℕ)) → ((r : List ℕ) → Memᴰ r rs → length r ≡ 8) → (b b' : Sheet) → RecordsPut rs b b' → length b'.bytes ≡ length b.bytes
+records_length rs e b b' x = ap length x.bytes ∙ puts_length b.count rs b.bytes e
+
+-- nor do premises
+pub premises_length : (ps : List Pair) (b b' : Sheet) → RecordsPut (premise_records ps) b b' → length b'.bytes ≡ length b.bytes
+premises_length ps =
+    records_length (premise_records ps) (λ r m. let q = Memᴰ.of_map (clause_record 1) ps m in ap length (sym q.2) ∙ record_length 1 q.0)
 
 -- ---- rows of pairs
 
@@ -117,6 +133,42 @@ row_unmarked n u small found rows cover e =
     keep_none (marked found) (row_pairs n u)
     (λ p m. let q = row_mem n u p m in let w : PairWithin 511 p = subst (PairWithin 511) (sym q.3) (q.1, omega (arith, q.2)) in failed (marked found p) (not_T (marked found p) (λ z. subst T (ap (λ (y : Pair). get_or rows y.left false) q.3 ∙ e) (cover p w z))))
 
+-- the marked pairs of a row with one column more
+module _ (marks : List Bool) (u v : ℕ) (h : u < v) where
+  row_kept : keep (marked marks) (row_pairs (v + 1) u) ≡ keep (marked marks) (row_pairs v u) ++ keep (marked marks) (pair u v ∷ [])
+  row_kept = ap (keep (marked marks)) (row_more u v h) ∙ keep_append (marked marks) (row_pairs v u) (pair u v ∷ [])
+
+  -- which is marked there
+  pub row_with : marked marks (pair u v) ≡ true → keep (marked marks) (row_pairs (v + 1) u) ≡ keep (marked marks) (row_pairs v u) ++ (pair u v ∷ [])
+  row_with e = row_kept ∙ ap (λ (l : List Pair). keep (marked marks) (row_pairs v u) ++ l) (keep_one (marked marks) (pair u v) e)
+
+  -- or is not
+  pub row_without : marked marks (pair u v) ≡ false → keep (marked marks) (row_pairs (v + 1) u) ≡ keep (marked marks) (row_pairs v u)
+  row_without e =
+      row_kept ∙ ap (λ (l : List Pair). keep (marked marks) (row_pairs v u) ++ l) (keep_not (marked marks) (pair u v) e) ∙ append-nil (keep (marked marks) (row_pairs v u))
+
+-- the marked pairs of the rows before u
+abbrev pub rows_before : ℕ → List Bool → ℕ → List Pair
+rows_before n marks u = keep (marked marks) (flat_map (row_pairs n) (below u))
+
+module _ (n : ℕ) (marks : List Bool) where
+  -- none before the first
+  pub rows_first : rows_before n marks 0 ≡ []
+  rows_first = ap (keep (marked marks)) (flat_map_below_none (row_pairs n)) ∙ keep_empty (marked marks)
+
+  -- with one row more
+  pub rows_with : (u : ℕ) → rows_before n marks (u + 1) ≡ rows_before n marks u ++ keep (marked marks) (row_pairs n u)
+  rows_with u = ap (keep (marked marks)) (flat_map_below_more (row_pairs n) u) ∙ keep_append (marked marks) (flat_map (row_pairs n) (below u)) (row_pairs n u)
+
+  -- in which nothing is marked
+  pub rows_without : (u : ℕ) → n ≤ 511 → (rows : List Bool) → Covered marks rows → get_or rows u false ≡ false → rows_before n marks (u + 1) ≡ rows_before n marks u
+  rows_without u small rows cover e =
+      rows_with u ∙ ap (λ (l : List Pair). rows_before n marks u ++ l) (row_unmarked n u small marks rows cover e) ∙ append-nil (rows_before n marks u)
+
+  -- all of them
+  pub rows_whole : (u : ℕ) → u ≡ n → keep (marked marks) (pairs_below n) ≡ rows_before n marks u
+  rows_whole u e = ap (keep (marked marks)) (pairs_below_rows n) ∙ ap (rows_before n marks) (sym e)
+
 -- ---- marks taken away
 
 -- with one mark fewer, what was marked is, but for that place
@@ -126,57 +178,42 @@ marked_fewer marks t k h =
     (λ e. let q : get_or (set marks t false) k false ≡ false = ap (λ (x : ℕ). get_or (set marks t false) x false) e ∙ get_or-set_same marks t false false h in (λ m. absurd (subst T q m), λ m. absurd (m.1 e)))
     (λ d. let q = get_or-set_other marks t k false false d in (λ m. (subst T q m, d), λ m. subst T (sym q) m.0))
 
--- the marked pairs of a list, as records: one pair more
-pub premises_more : (ps : List Pair) (p : Pair) (at : ℕ) (out : List ℕ) (n : ℕ) (out' : List ℕ) → PremisesOut ps at out n out' → PremisesOut (ps ++ (p ∷ [])) at out (n + 1) (put_record n (clause_record 1 p) out')
-premises_more ps p at out n out' o =
-    record {
-      count = omega (arith, o.count, length-append ps (p ∷ []));
-      bytes = ap₂ (λ (m : ℕ) (x : List ℕ). put_record m (clause_record 1 p) x) (o.count ∙ ap (λ (m : ℕ). at + m) (sym (length-map ps (clause_record 1)))) o.bytes ∙ sym (put_more at (map (clause_record 1) ps) (clause_record 1 p) out) ∙ ap (λ (rs : List (List ℕ)). put_records at rs out) (sym (map-append (clause_record 1) ps (p ∷ [])));
-    }
-
 -- the row up to column v is written and its marks are taken away
-pub record RowTo (u n at : ℕ) (found₀ : List Bool) (out₀ : List ℕ) (v r : ℕ) (found : List Bool) (out : List ℕ) : Type 0 where
+pub record RowTo (u n : ℕ) (found₀ : List Bool) (b₀ : Sheet) (v : ℕ) (found : List Bool) (b : Sheet) : Type 0 where
   pub begun : u < v
   pub within : v ≤ n
-  pub few : r + u < at + v
-  pub premises : PremisesOut (keep (marked found₀) (row_pairs v u)) at out₀ r out
+  pub few : b.count + u < b₀.count + v
+  pub premises : RecordsPut (premise_records (keep (marked found₀) (row_pairs v u))) b₀ b
   pub cleared : RowCleared v u found₀ found
 
-module _ (u n at : ℕ) (found₀ : List Bool) (out₀ : List ℕ) (small : n ≤ 511) where
+module _ (u n : ℕ) (found₀ : List Bool) (b₀ : Sheet) (small : n ≤ 511) where
   -- nothing yet
-  pub row_none : u < n → RowTo u n at found₀ out₀ (u + 1) at found₀ out₀
-  unfolding put_records
+  pub row_none : u < n → RowTo u n found₀ b₀ (u + 1) found₀ b₀
   row_none h =
       let none : keep (marked found₀) (row_pairs (u + 1) u) ≡ [] = ap (keep (marked found₀)) (row_empty u) ∙ keep_empty (marked found₀) in
       record {
         begun = omega arith;
         within = omega arith;
         few = omega arith;
-        premises = subst (λ (ps : List Pair). PremisesOut ps at out₀ at out₀) (sym none) (record { count = omega arith; bytes = refl });
+        premises = subst (λ (ps : List Pair). RecordsPut (premise_records ps) b₀ b₀) (sym none) (records_none b₀);
         cleared = record { sized = refl; left_over = λ p w. (λ m. (m, same_or_not p.left u (λ e. inr (omega (arith, e, w.0))) (λ d. inl d)), λ m. m.0) };
       }
 
-  module _ (v r : ℕ) (found : List Bool) (out : List ℕ) (h : v < n) (x : RowTo u n at found₀ out₀ v r found out) where
+  module _ (v : ℕ) (found : List Bool) (b : Sheet) (h : v < n) (x : RowTo u n found₀ b₀ v found b) where
     -- the pair at column v is marked now where it was at first
     row_same : marked found (pair u v) ≡ marked found₀ (pair u v)
     row_same =
         let y = x.cleared.left_over (pair u v) (x.begun, omega arith) in
         same_test (marked found (pair u v)) (marked found₀ (pair u v)) (λ m. (y.0 m).0) (λ m. y.1 (m, inr (omega arith)))
 
-    -- the marked pairs with one column more
-    row_kept : keep (marked found₀) (row_pairs (v + 1) u) ≡ keep (marked found₀) (row_pairs v u) ++ keep (marked found₀) (pair u v ∷ [])
-    row_kept = ap (keep (marked found₀)) (row_more u v x.begun) ∙ keep_append (marked found₀) (row_pairs v u) (pair u v ∷ [])
-
     -- a column without a mark
-    pub row_skip : marked found (pair u v) ≡ false → RowTo u n at found₀ out₀ (v + 1) r found out
+    pub row_skip : marked found (pair u v) ≡ false → RowTo u n found₀ b₀ (v + 1) found b
     row_skip e =
-        let none = sym row_same ∙ e in
-        let q : keep (marked found₀) (row_pairs (v + 1) u) ≡ keep (marked found₀) (row_pairs v u) = row_kept ∙ ap (λ (l : List Pair). keep (marked found₀) (row_pairs v u) ++ l) (keep_not (marked found₀) (pair u v) none) ∙ append-nil (keep (marked found₀) (row_pairs v u)) in
         record {
           begun = omega (arith, x.begun);
           within = omega arith;
           few = omega (arith, x.few);
-          premises = subst (λ (ps : List Pair). PremisesOut ps at out₀ r out) (sym q) x.premises;
+          premises = subst (λ (ps : List Pair). RecordsPut (premise_records ps) b₀ b) (sym (row_without found₀ u v x.begun (sym row_same ∙ e))) x.premises;
           cleared = record { sized = x.cleared.sized; left_over = λ p w. let y = x.cleared.left_over p w in (λ m. ((y.0 m).0, ⊎_elim inl (λ l. same_or_not p.left u (λ e'. same_or_not p.right v (λ e''. absurd (unmarked p e' e'' m)) (λ d. inr (omega (arith, l, d)))) (λ d. inl d)) (y.0 m).1), λ m. y.1 (m.0, ⊎_elim inl (λ l. inr (omega (arith, l))) m.1)) };
         }
       where
@@ -184,15 +221,13 @@ module _ (u n at : ℕ) (found₀ : List Bool) (out₀ : List ℕ) (small : n �
         unmarked p e' e'' m = subst T (ap₂ (λ (a b : ℕ). marked found (pair a b)) e' e'' ∙ e) m
 
     -- a column with a mark: its record is written, and the mark taken away
-    pub row_take : 511 * n ≤ length found₀ → marked found (pair u v) ≡ true → RowTo u n at found₀ out₀ (v + 1) (r + 1) (set found (511 * u + v) false) (put_record r (clause_record 1 (pair u v)) out)
-    row_take fits e =
-        let some = sym row_same ∙ e in
-        let q : keep (marked found₀) (row_pairs (v + 1) u) ≡ keep (marked found₀) (row_pairs v u) ++ (pair u v ∷ []) = row_kept ∙ ap (λ (l : List Pair). keep (marked found₀) (row_pairs v u) ++ l) (keep_one (marked found₀) (pair u v) some) in
+    pub row_take : 511 * n ≤ length found₀ → marked found (pair u v) ≡ true → (b' : Sheet) → RecordsPut (clause_record 1 (pair u v) ∷ []) b b' → RowTo u n found₀ b₀ (v + 1) (set found (511 * u + v) false) b'
+    row_take fits e b' one =
         record {
           begun = omega (arith, x.begun);
           within = omega arith;
-          few = omega (arith, x.few);
-          premises = subst (λ (ps : List Pair). PremisesOut ps at out₀ (r + 1) (put_record r (clause_record 1 (pair u v)) out)) (sym q) (premises_more (keep (marked found₀) (row_pairs v u)) (pair u v) at out₀ r out x.premises);
+          few = omega (arith, x.few, one.count);
+          premises = subst (λ (ps : List Pair). RecordsPut (premise_records ps) b₀ b') (sym (row_with found₀ u v x.begun (sym row_same ∙ e))) (premises_append (keep (marked found₀) (row_pairs v u)) (pair u v ∷ []) b₀ b b' x.premises one);
           cleared = record { sized = length-set found (511 * u + v) false ∙ x.cleared.sized; left_over = λ p w. let y = x.cleared.left_over p w in let f = marked_fewer found (511 * u + v) (place_of p) (omega (arith, x.begun, x.cleared.sized)) in (λ m. ((y.0 (f.0 m).0).0, ⊎_elim inl (λ l. same_or_not p.left u (λ e'. inr (beyond p e' l (f.0 m).1)) (λ d. inl d)) (y.0 (f.0 m).0).1), λ m. f.1 (y.1 (m.0, ⊎_elim inl (λ l. inr (omega (arith, l))) m.1), λ z. ⊎_elim (λ d. d (ap (λ (a : Pair). a.left) (place_one p w z))) (λ l. omega (arith, l, ap (λ (a : Pair). a.right) (place_one p w z))) m.1)) };
         }
       where
@@ -202,47 +237,27 @@ module _ (u n at : ℕ) (found₀ : List Bool) (out₀ : List ℕ) (small : n �
         place_one : (p : Pair) → PairWithin 511 p → place_of p ≡ place_of (pair u v) → p ≡ pair u v
         place_one p w z = one_place p (pair u v) (within_square p w) (omega (arith, x.begun), omega arith) z
 
-  -- the whole row
-  pub row_all : (v r : ℕ) (found : List Bool) (out : List ℕ) → n ≤ v → RowTo u n at found₀ out₀ v r found out → RowOut n u at found₀ out₀ r found out
-  row_all v r found out h x =
-      let e : v ≡ n = omega (arith, x.within) in
-      record {
-        few = omega (arith, x.few, x.within);
-        premises = subst (λ (w : ℕ). PremisesOut (keep (marked found₀) (row_pairs w u)) at out₀ r out) e x.premises;
-        cleared = subst (λ (w : ℕ). RowCleared w u found₀ found) e x.cleared;
-      }
-
--- some premises and then others
-pub premises_append : (ps qs : List Pair) (at : ℕ) (out : List ℕ) (n : ℕ) (out' : List ℕ) (m : ℕ) (out'' : List ℕ) → PremisesOut ps at out n out' → PremisesOut qs n out' m out'' → PremisesOut (ps ++ qs) at out m out''
-premises_append ps qs at out n out' m out'' x y =
-    record {
-      count = omega (arith, x.count, y.count, length-append ps qs);
-      bytes = y.bytes ∙ ap₂ (λ (k : ℕ) (o : List ℕ). put_records k (map (clause_record 1) qs) o) (x.count ∙ ap (λ (k : ℕ). at + k) (sym (length-map ps (clause_record 1)))) x.bytes ∙ sym (put_append at (map (clause_record 1) ps) (map (clause_record 1) qs) out) ∙ ap (λ (rs : List (List ℕ)). put_records at rs out) (sym (map-append (clause_record 1) ps qs));
-    }
-
 -- the rows before u are written and their marks are taken away
-pub record RowsTo (n at : ℕ) (found₀ : List Bool) (out₀ : List ℕ) (u r : ℕ) (found : List Bool) (out : List ℕ) : Type 0 where
+pub record RowsTo (n : ℕ) (found₀ : List Bool) (b₀ : Sheet) (u : ℕ) (found : List Bool) (b : Sheet) : Type 0 where
   pub within : u ≤ n
-  pub few : r ≤ at + 511 * u
-  pub premises : PremisesOut (keep (marked found₀) (flat_map (row_pairs n) (below u))) at out₀ r out
+  pub few : b.count ≤ b₀.count + 511 * u
+  pub premises : RecordsPut (premise_records (rows_before n found₀ u)) b₀ b
   pub sized : length found ≡ length found₀
   pub left_over : (p : Pair) → PairWithin 511 p → PairMarked found p ↔ (PairMarked found₀ p × ((u ≤ p.left) ⊎ (n ≤ p.right)))
 
-module _ (n at : ℕ) (found₀ : List Bool) (out₀ : List ℕ) (small : n ≤ 511) where
+module _ (n : ℕ) (found₀ : List Bool) (b₀ : Sheet) (small : n ≤ 511) where
   -- no row yet
-  pub rows_none : RowsTo n at found₀ out₀ 0 at found₀ out₀
-  unfolding put_records
+  pub rows_none : RowsTo n found₀ b₀ 0 found₀ b₀
   rows_none =
-      let none : keep (marked found₀) (flat_map (row_pairs n) (below 0)) ≡ [] = ap (keep (marked found₀)) (flat_map_below_none (row_pairs n)) ∙ keep_empty (marked found₀) in
       record {
         within = omega arith;
         few = omega arith;
-        premises = subst (λ (ps : List Pair). PremisesOut ps at out₀ at out₀) (sym none) (record { count = omega arith; bytes = refl });
+        premises = subst (λ (ps : List Pair). RecordsPut (premise_records ps) b₀ b₀) (sym (rows_first n found₀)) (records_none b₀);
         sized = refl;
         left_over = λ p w. (λ m. (m, inl (omega arith)), λ m. m.0);
       }
 
-  module _ (u r : ℕ) (found : List Bool) (out : List ℕ) (h : u < n) (x : RowsTo n at found₀ out₀ u r found out) where
+  module _ (u : ℕ) (found : List Bool) (b : Sheet) (h : u < n) (x : RowsTo n found₀ b₀ u found b) where
     -- a row is marked now where it was at first
     rows_same : keep (marked found) (row_pairs n u) ≡ keep (marked found₀) (row_pairs n u)
     rows_same = keep_agree (marked found) (marked found₀) (row_pairs n u) (λ p m. let w = row_within p m in let y = x.left_over p w in same_test (marked found p) (marked found₀ p) (λ z. (y.0 z).0) (λ z. y.1 (z, inl (omega (arith, row_left p m)))))
@@ -253,58 +268,43 @@ module _ (n at : ℕ) (found₀ : List Bool) (out₀ : List ℕ) (small : n ≤ 
         row_left : (p : Pair) → Memᴰ p (row_pairs n u) → p.left ≡ u
         row_left p m = ap (λ (z : Pair). z.left) (row_mem n u p m).3
 
-    -- the marked pairs with one row more
-    rows_kept : keep (marked found₀) (flat_map (row_pairs n) (below (u + 1))) ≡ keep (marked found₀) (flat_map (row_pairs n) (below u)) ++ keep (marked found) (row_pairs n u)
-    rows_kept =
-        ap (keep (marked found₀)) (flat_map_below_more (row_pairs n) u) ∙ keep_append (marked found₀) (flat_map (row_pairs n) (below u)) (row_pairs n u) ∙
-        ap (λ (l : List Pair). keep (marked found₀) (flat_map (row_pairs n) (below u)) ++ l) (sym rows_same)
-
     -- a row with marks is written
-    pub rows_take : (r' : ℕ) (found' : List Bool) (out' : List ℕ) → RowOut n u r found out r' found' out' → RowsTo n at found₀ out₀ (u + 1) r' found' out'
-    rows_take r' found' out' y =
+    pub rows_take : (found' : List Bool) (b' : Sheet) → RowOut n u found b found' b' → RowsTo n found₀ b₀ (u + 1) found' b'
+    rows_take found' b' y =
         record {
           within = omega arith;
           few = omega (arith, x.few, y.few);
-          premises = subst (λ (ps : List Pair). PremisesOut ps at out₀ r' out') (sym rows_kept) (premises_append (keep (marked found₀) (flat_map (row_pairs n) (below u))) (keep (marked found) (row_pairs n u)) at out₀ r out r' out' x.premises y.premises);
+          premises = subst (λ (ps : List Pair). RecordsPut (premise_records ps) b₀ b') (sym (rows_with n found₀ u ∙ ap (λ (l : List Pair). rows_before n found₀ u ++ l) (sym rows_same))) (premises_append (rows_before n found₀ u) (keep (marked found) (row_pairs n u)) b₀ b b' x.premises y.premises);
           sized = y.cleared.sized ∙ x.sized;
-          left_over = λ p w. let a = x.left_over p w in let b = y.cleared.left_over p w in (λ m. let k = b.0 m in let j = a.0 k.0 in (j.0, ⊎_elim (λ d. ⊎_elim (λ l. inl (omega (arith, l, d))) inr j.1) inr k.1), λ m. b.1 (a.1 (m.0, ⊎_elim (λ l. inl (omega (arith, l))) inr m.1), ⊎_elim (λ l. inl (λ e. omega (arith, l, e))) inr m.1));
+          left_over = λ p w. let a = x.left_over p w in let c = y.cleared.left_over p w in (λ m. let k = c.0 m in let j = a.0 k.0 in (j.0, ⊎_elim (λ d. ⊎_elim (λ l. inl (omega (arith, l, d))) inr j.1) inr k.1), λ m. c.1 (a.1 (m.0, ⊎_elim (λ l. inl (omega (arith, l))) inr m.1), ⊎_elim (λ l. inl (λ e. omega (arith, l, e))) inr m.1));
         }
 
     -- a row without marks is passed over
-    pub rows_skip : (rows : List Bool) → Covered found₀ rows → get_or rows u false ≡ false → RowsTo n at found₀ out₀ (u + 1) r found out
+    pub rows_skip : (rows : List Bool) → Covered found₀ rows → get_or rows u false ≡ false → RowsTo n found₀ b₀ (u + 1) found b
     rows_skip rows cover e =
-        let empty : keep (marked found) (row_pairs n u) ≡ [] = rows_same ∙ row_unmarked n u small found₀ rows cover e in
-        let q = rows_kept ∙ ap (λ (l : List Pair). keep (marked found₀) (flat_map (row_pairs n) (below u)) ++ l) empty ∙ append-nil (keep (marked found₀) (flat_map (row_pairs n) (below u))) in
         record {
           within = omega arith;
           few = omega (arith, x.few);
-          premises = subst (λ (ps : List Pair). PremisesOut ps at out₀ r out) (sym q) x.premises;
+          premises = subst (λ (ps : List Pair). RecordsPut (premise_records ps) b₀ b) (sym (rows_without n found₀ u small rows cover e)) x.premises;
           sized = x.sized;
           left_over = λ p w. let a = x.left_over p w in (λ m. let k = a.0 m in (k.0, ⊎_elim (λ l. same_or_not p.left u (λ e'. absurd (subst T (ap (λ (z : ℕ). get_or rows z false) e' ∙ e) (cover p w k.0))) (λ d. inl (omega (arith, l, d)))) inr k.1), λ m. a.1 (m.0, ⊎_elim (λ l. inl (omega (arith, l))) inr m.1));
         }
 
   -- all rows
-  pub rows_all : (u r : ℕ) (found : List Bool) (out : List ℕ) → n ≤ u → RowsTo n at found₀ out₀ u r found out → AllOut n at found₀ out₀ r found out
-  rows_all u r found out h x =
+  pub rows_all : (u : ℕ) (found : List Bool) (b : Sheet) → n ≤ u → RowsTo n found₀ b₀ u found b → AllOut n found₀ b₀ found b
+  rows_all u found b h x =
       let e : u ≡ n = omega (arith, x.within) in
       record {
         few = omega (arith, x.few, x.within);
-        premises = subst (λ (ps : List Pair). PremisesOut (keep (marked found₀) ps) at out₀ r out) (ap (λ (w : ℕ). flat_map (row_pairs n) (below w)) e ∙ sym (pairs_below_rows n)) x.premises;
+        premises = subst (λ (ps : List Pair). RecordsPut (premise_records ps) b₀ b) (sym (rows_whole n found₀ u e)) x.premises;
         sized = x.sized;
         left_over = λ p w. let a = x.left_over p w in (λ m. let k = a.0 m in (k.0, ⊎_elim (λ l. omega (arith, l, e, w.0)) (λ l. l) k.1), λ m. a.1 (m.0, inr m.1));
       }
 
--- ---- the same under other names
-
--- a row
-pub row_named : (u n at : ℕ) (found₀ : List Bool) (out₀ : List ℕ) (v r r' : ℕ) (found found' : List Bool) (out out' : List ℕ) → found' ≡ found → out' ≡ out → r' ≡ r → RowTo u n at found₀ out₀ v r found out → RowTo u n at found₀ out₀ v r' found' out'
-row_named u n at found₀ out₀ v r r' found found' out out' f o e x =
-    subst (RowTo u n at found₀ out₀ v r' found') (sym o) (subst (λ (y : List Bool). RowTo u n at found₀ out₀ v r' y out) (sym f) (subst (λ (y : ℕ). RowTo u n at found₀ out₀ v y found out) (sym e) x))
-
--- all rows before one
-pub rows_named : (n at : ℕ) (found₀ : List Bool) (out₀ : List ℕ) (u r r' : ℕ) (found found' : List Bool) (out out' : List ℕ) → found' ≡ found → out' ≡ out → r' ≡ r → RowsTo n at found₀ out₀ u r found out → RowsTo n at found₀ out₀ u r' found' out'
-rows_named n at found₀ out₀ u r r' found found' out out' f o e x =
-    subst (RowsTo n at found₀ out₀ u r' found') (sym o) (subst (λ (y : List Bool). RowsTo n at found₀ out₀ u r' y out) (sym f) (subst (λ (y : ℕ). RowsTo n at found₀ out₀ u y found out) (sym e) x))
+-- a step keeps the buffer that the loop was lent, and what it leaves stands under the names after it
+pub stepped : (P : List Bool → Sheet → Type 0) (w₀ w : Records) {w' w'' : Records} {found found' : List Bool} → found' ≡ found → w'' ≡ w' → Lent w₀ w → Lent w w' → P found (sheet_of w') → Lent w₀ w'' × P found' (sheet_of w'')
+stepped P w₀ w {w'} {found' = found'} f e l m x =
+    subst (λ (y : Records). Lent w₀ y × P found' (sheet_of y)) (sym e) (m ∙ l, subst (λ (y : List Bool). P y (sheet_of w')) (sym f) x)
 
 -- ---- all records where they fit
 

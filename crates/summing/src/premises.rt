@@ -1,45 +1,33 @@
 // The premises of a clause, marked, and written as records in ascending order.
 ghost use Rattle.std.specs.Prelude.{◌+◌, ◌^◌, ◌≤◌, ◌<◌, length};
-ghost use Rattle.marking.specs.Marks.{Within, RowsOf};
-ghost use Rattle.marking.specs.Drawn.{drawing, DrawnSome};
+ghost use Rattle.marking.specs.Drawn.{DrawnSome};
+ghost use Rattle.summing.specs.Writing.{sheet_of, Lent};
+ghost use Rattle.summing.specs.Cutting.{InPlace};
 ghost use Rattle.summing.specs.Written.{Blank, PremisesPut};
 
-use super::writing;
-use marking::marks::want_outer;
+use super::stretches::Cut;
+use super::writing::{Records, premises_out};
+use marking::drawing::Drawing;
+use marking::marks::{Marks, want_outer};
 use marking::settling::settle;
 
-// The premises of the stretches of a path before place lo and from place hi on. Their marks are taken away as they are written.
-pub fn outer_premises<'a, 'b>(
-    toward: &'a [u16; 511],
-    by: &'a [u16; 511],
-    rank: &'a [u16; 511],
-    inb: &'a [bool; 510],
-    places: &'a [u8; 510],
-    parents: &'a [u16; 4080],
-    count: usize,
+// The premises of the outer stretches of a path. Their marks are taken away as they are written.
+pub fn outer_premises(
+    drawn: &Drawing,
     vertices: u16,
-    stops: &'b [u16; 511],
-    edges: &'b [u16; 511],
-    hops: usize,
-    lo: usize,
-    hi: usize,
+    cut: &Cut<'_>,
     found: &mut [bool],
-    out: &mut [u8],
-    at: usize,
-) -> usize
-    requires drawn_some { DrawnSome (drawing toward.now by.now rank.now inb.now places.now parents.now count) (length found.old) }
-    requires within { Within stops.now edges.now 0 hops × (lo ≤ hi) × (hi ≤ hops) × (vertices ≤ 511) × (at + 261122 < 2 ^ 60) }
-    requires rows_of { RowsOf (length found.old) stops.now hops × Blank vertices found.old }
-    ensures { PremisesPut (drawing toward.now by.now rank.now inb.now places.now parents.now count) vertices stops.now edges.now lo hi hops at found.old out.old result found.new out.new }
+    records: &mut Records<'_>,
+)
+    requires drawn_some { DrawnSome drawn.now (length found.old) }
+    requires in_place { InPlace (length found.old) cut.now }
+    requires room { (vertices ≤ 511) × (records.old.count + 261122 < 2 ^ 60) }
+    requires blank { Blank vertices found.old }
+    ensures lent { Lent records.old records.new }
+    ensures put { PremisesPut drawn.now vertices cut.now found.old (sheet_of records.old) found.new (sheet_of records.new) }
 {
-    let rows = &mut [false; 511];
-    let inside = &mut [false; 510];
-    let under = &mut [false; 510];
-    want_outer(
-        inb, stops, edges, lo, hi, hops, true, found, rows, inside, under,
-    );
-    settle(
-        toward, by, rank, inb, places, parents, count, true, found, rows, inside, under,
-    );
-    writing::premises_out(found, rows, vertices, out, at)
+    let marks = &mut Marks::none();
+    want_outer(&drawn.inb, cut.path, cut.lo, cut.hi, true, found, marks);
+    settle(drawn, true, found, marks);
+    premises_out(found, &marks.rows, vertices, records);
 }

@@ -1,85 +1,61 @@
 // The two readings of a disequality: which equalities its clauses conclude, and their records.
 ghost use Rattle.std.specs.Prelude.{◌≡◌, ◌*◌, ◌≤◌, length};
-ghost use Rattle.marking.specs.Marks.{PairMarked, Covered, Within, RowsOf};
-ghost use Rattle.marking.specs.Drawn.{drawing, DrawnSome};
+ghost use Rattle.marking.specs.Marks.{PairMarked, Covered};
+ghost use Rattle.marking.specs.Drawn.{DrawnSome};
+ghost use Rattle.summing.specs.Writing.{sheet};
+ghost use Rattle.summing.specs.Cutting.{InPlace};
 ghost use Rattle.summing.specs.Written.{Clear, Blank, ReadableSome, Concluding, ReadingPut};
 
-use super::clause::clauses_out;
+use super::clause::{Conclusions, clauses_out};
 use super::last::last_out;
-use marking::marks::{want_along, want_outer};
+use super::stretches::Cut;
+use super::writing::Records;
+use marking::drawing::Drawing;
+use marking::marks::{Marks, want_along, want_outer};
 use marking::settling::settle;
+use tables::Side;
 
 // Marks the pairs that the clauses of a disequality conclude: what its middle stretch reaches, and what its outer ones reach without their own factors.
-pub fn conclude<'a, 'b>(
-    toward: &'a [u16; 511],
-    by: &'a [u16; 511],
-    rank: &'a [u16; 511],
-    inb: &'a [bool; 510],
-    places: &'a [u8; 510],
-    parents: &'a [u16; 4080],
-    count: usize,
-    stops: &'b [u16; 511],
-    edges: &'b [u16; 511],
-    hops: usize,
-    lo: usize,
-    hi: usize,
-    pairs: &mut [bool],
-    rows: &mut [bool; 511],
-)
-    requires drawn_some { DrawnSome (drawing toward.now by.now rank.now inb.now places.now parents.now count) (length pairs.old) }
-    requires within { Within stops.now edges.now 0 hops × (lo ≤ hi) × (hi ≤ hops) }
-    requires rows_of { RowsOf (length pairs.old) stops.now hops × Clear pairs.old × (length rows.old ≡ 511) }
-    ensures { (length pairs.new ≡ length pairs.old) × Concluding (drawing toward.now by.now rank.now inb.now places.now parents.now count) stops.now edges.now lo hi hops pairs.new rows.new }
+// Returns which rows have such a pair.
+pub fn conclude(drawn: &Drawing, cut: &Cut<'_>, pairs: &mut [bool]) -> [bool; 511]
+    requires drawn_some { DrawnSome drawn.now (length pairs.old) }
+    requires in_place { InPlace (length pairs.old) cut.now }
+    requires clear { Clear pairs.old }
+    ensures { (length pairs.new ≡ length pairs.old) × Concluding drawn.now cut.now pairs.new result }
 {
-    let inside = &mut [false; 510];
-    let under = &mut [false; 510];
+    let mut marks = Marks::none();
     want_along(
-        inb, stops, edges, lo, hi, false, true, pairs, rows, inside, under,
+        &drawn.inb, cut.path, cut.lo, cut.hi, false, true, pairs, &mut marks,
     );
     want_outer(
-        inb, stops, edges, lo, hi, hops, false, pairs, rows, inside, under,
+        &drawn.inb, cut.path, cut.lo, cut.hi, false, pairs, &mut marks,
     );
-    settle(
-        toward, by, rank, inb, places, parents, count, false, pairs, rows, inside, under,
-    );
+    settle(drawn, false, pairs, &mut marks);
+    marks.rows
 }
 
 // The records of a disequality: "Disequality in B: the path clauses of the path between its sides." In A: those of the middle stretch and of the outer
 // premises, and a last clause.
-pub fn records_out<'a, 'b>(
-    toward: &'a [u16; 511],
-    by: &'a [u16; 511],
-    rank: &'a [u16; 511],
-    inb: &'a [bool; 510],
-    places: &'a [u8; 510],
-    parents: &'a [u16; 4080],
-    count: usize,
+pub fn records_out(
+    drawn: &Drawing,
     vertices: u16,
-    ina: bool,
-    stops: &'b [u16; 511],
-    edges: &'b [u16; 511],
-    hops: usize,
-    lo: usize,
-    hi: usize,
-    pairs: &[bool],
-    rows: &[bool; 511],
+    side: Side,
+    cut: &Cut<'_>,
+    conclusions: &Conclusions<'_>,
     found: &mut [bool],
     out: &mut [u8],
 ) -> usize
-    requires readable_some { ReadableSome (drawing toward.now by.now rank.now inb.now places.now parents.now count) vertices (PairMarked pairs.now) }
-    requires vertices_bound { (vertices ≤ 511) × (511 * vertices ≤ length pairs.now) × Covered pairs.now rows.now }
-    requires within { Within stops.now edges.now 0 hops × (lo ≤ hi) × (hi ≤ hops) }
-    requires rows_of { RowsOf (length found.old) stops.now hops × Blank vertices found.old }
-    ensures { ReadingPut (drawing toward.now by.now rank.now inb.now places.now parents.now count) vertices pairs.now stops.now edges.now lo hi hops found.old out.old result found.new out.new ina }
+    requires readable_some { ReadableSome drawn.now vertices (PairMarked conclusions.now.pairs.now) }
+    requires vertices_bound { (vertices ≤ 511) × (511 * vertices ≤ length conclusions.now.pairs.now) × Covered conclusions.now.pairs.now conclusions.now.rows.now }
+    requires in_place { InPlace (length found.old) cut.now }
+    requires blank { Blank vertices found.old }
+    ensures { ReadingPut drawn.now vertices side cut.now conclusions.now.pairs.now found.old (sheet out.old 0) found.new (sheet out.new result) }
 {
-    let n = clauses_out(
-        toward, by, rank, inb, places, parents, count, vertices, pairs, rows, found, out, 0,
-    );
-    if ina {
-        return last_out(
-            toward, by, rank, inb, places, parents, count, vertices, stops, edges, hops, lo, hi,
-            found, out, n,
-        );
+    let mut records = Records::new(out);
+    clauses_out(drawn, vertices, conclusions, found, &mut records);
+    match side {
+        Side::A => last_out(drawn, vertices, cut, found, &mut records),
+        Side::B => {}
     }
-    n
+    records.count
 }

@@ -1,84 +1,70 @@
-// Where the middle stretch of a path begins and ends: at its first and its last B-colourable stop.
-ghost use Rattle.std.specs.Prelude.{◌≤◌};
+// A path cut at its middle stretch, which begins at its first and ends at its last B-colourable stop.
+ghost use Rattle.std.specs.Prelude.{◌≡◌, ◌≤◌, leb};
 ghost use Rattle.marking.specs.Marks.{Within};
-ghost use Rattle.summing.specs.Written.{FirstB, LastB, MiddleFrom, MiddleTo};
+ghost use Rattle.summing.specs.Cutting.{FirstB, LastB, Middle};
 
-// The first stop of a trail that is B-colourable, or its end.
-fn first_b<'a>(
-    colours: &[u8; 511],
-    stops: &'a [u16; 511],
-    edges: &'a [u16; 511],
-    hops: usize,
-) -> usize
-    requires { Within stops.now edges.now 0 hops }
-    ensures { FirstB colours.now stops.now hops result }
+use graphs::paths::Trail;
+use tables::Side;
+
+// The stretches of a path: the middle one is that from place lo to place hi, and the outer ones are what stands before and after it.
+#[derive(Clone, Copy)]
+pub struct Cut<'a> {
+    pub path: &'a Trail,
+    pub lo: usize,
+    pub hi: usize,
+}
+
+// Whether B is among a vertex's colours. The tables keep them as one number: 1 is A alone, 2 B alone and 3 both.
+fn has_b(colours: u8) -> bool
+    ensures { result ≡ leb 2 colours }
 {
-    let mut i = 0;
-    while i < hops {
-        let s = stops[i] as usize;
-        if 2 <= colours[s] {
+    2 <= colours
+}
+
+// The first stop of a path that is B-colourable, or its end.
+fn first_b(colours: &[u8; 511], path: &Trail) -> usize
+    requires { Within path.now 0 path.now.hops }
+    ensures { FirstB colours.now path.now result }
+{
+    for i in 0..path.hops {
+        if has_b(colours[path.stops[i] as usize]) {
             return i;
         }
-        i += 1;
     }
-    i
+    path.hops
 }
 
 // The last stop from place lo on that is B-colourable, or lo itself.
-fn last_b<'a>(
-    colours: &[u8; 511],
-    stops: &'a [u16; 511],
-    edges: &'a [u16; 511],
-    lo: usize,
-    hops: usize,
-) -> usize
-    requires within { Within stops.now edges.now 0 hops }
-    requires lo_le_hops { lo ≤ hops }
-    ensures { LastB colours.now stops.now lo hops result }
+fn last_b(colours: &[u8; 511], path: &Trail, lo: usize) -> usize
+    requires within { Within path.now 0 path.now.hops }
+    requires lo_le_hops { lo ≤ path.now.hops }
+    ensures { LastB colours.now path.now lo result }
 {
-    let mut i = hops;
-    while lo < i {
-        let s = stops[i] as usize;
-        if 2 <= colours[s] {
+    for i in (lo + 1..path.hops + 1).rev() {
+        if has_b(colours[path.stops[i] as usize]) {
             return i;
         }
-        i -= 1;
     }
-    i
+    lo
 }
 
-// Where the middle stretch begins: in A at the first stop that is B-colourable, in B at the first of all.
-pub fn middle_from<'a>(
-    ina: bool,
-    colours: &[u8; 511],
-    stops: &'a [u16; 511],
-    edges: &'a [u16; 511],
-    hops: usize,
-) -> usize
-    requires { Within stops.now edges.now 0 hops }
-    ensures { MiddleFrom colours.now stops.now hops result ina }
-{
-    if ina {
-        return first_b(colours, stops, edges, hops);
+impl<'a> Cut<'a> {
+    // In A the middle stretch is the one between the B-colourable stops, in B the whole path.
+    pub fn of(side: Side, colours: &[u8; 511], path: &'a Trail) -> Cut<'a>
+        requires { Within path.now 0 path.now.hops }
+        ensures { (result.path.now ≡ path.now) × Middle colours.now side result }
+    {
+        match side {
+            Side::A => {
+                let lo = first_b(colours, path);
+                let hi = last_b(colours, path, lo);
+                Cut { path, lo, hi }
+            }
+            Side::B => Cut {
+                path,
+                lo: 0,
+                hi: path.hops,
+            },
+        }
     }
-    0
-}
-
-// Where it ends: in A at the last such stop, in B at the last of all.
-pub fn middle_to<'a>(
-    ina: bool,
-    colours: &[u8; 511],
-    stops: &'a [u16; 511],
-    edges: &'a [u16; 511],
-    lo: usize,
-    hops: usize,
-) -> usize
-    requires within { Within stops.now edges.now 0 hops }
-    requires lo_le_hops { lo ≤ hops }
-    ensures { MiddleTo colours.now stops.now lo hops result ina }
-{
-    if ina {
-        return last_b(colours, stops, edges, lo, hops);
-    }
-    hops
 }

@@ -1,79 +1,91 @@
 // Clause records: written where they fit, counted in any case.
-ghost use Rattle.std.specs.Prelude.{◌++◌, ◌≡◌, ◌+◌, ◌*◌, ◌^◌, ◌≤◌, ◌<◌, length, take, drop};
+ghost use Rattle.std.specs.Prelude.{◌∷◌, [], ◌≡◌, ◌+◌, ◌*◌, ◌^◌, ◌≤◌, ◌<◌, length};
 ghost use Rattle.tables.specs.Words.{pair};
 ghost use Rattle.clauses.specs.Records.{clause_record};
 ghost use Rattle.marking.specs.Marks.{Covered};
-ghost use Rattle.summing.specs.Writing.{put_record, RowOut, AllOut};
+ghost use Rattle.summing.specs.Writing.{kind_number, sheet, sheet_of, Lent, RecordsPut, RowOut, AllOut};
 
-// Writes one record where it fits, so that a run over an empty buffer counts the records.
-pub fn put(out: &mut [u8], at: usize, kind: u8, left: u16, right: u16)
-    requires { at < 2 ^ 60 }
-    ensures { out.new ≡ put_record at (clause_record kind (pair left right)) out.old }
-{
-    let i = 8 * at;
-    if i + 8 <= out.len() {
-        out[i] = kind;
-        out[i + 1] = 0;
-        out[i + 2] = (left % 256) as u8;
-        out[i + 3] = (left / 256) as u8;
-        out[i + 4] = (right % 256) as u8;
-        out[i + 5] = (right / 256) as u8;
-        out[i + 6] = 0;
-        out[i + 7] = 0;
-    }
+// "0 kind (1 premise, 2 equal, 3 different, 4 false)".
+#[derive(Clone, Copy, Debug, PartialEq, Eq)]
+pub enum Kind {
+    Premise = 1,
+    Equal = 2,
+    Different = 3,
+    False = 4,
 }
 
-// The first bytes of a small buffer, copied; what stands behind them in the other stays.
-pub fn copy(from: &[u8], bytes: usize, out: &mut [u8])
-    requires { (bytes ≤ length from.now) × (bytes ≤ length out.old) }
-    ensures { out.new ≡ take bytes from.now ++ drop bytes out.old }
-{
-    let mut i = 0;
-    while i < bytes {
-        out[i] = from[i];
-        i += 1;
+// How many bytes a record has.
+pub const RECORD: usize = 8;
+
+// How many marks a row of a square has.
+pub const ROW: usize = 511;
+
+// A lent buffer, and how many records were put into it: each is written where it fits, so that a run over an empty buffer counts them.
+#[derive(Drop)]
+pub struct Records<'a> {
+    out: &'a mut [u8],
+    pub count: usize,
+}
+
+impl<'a> Records<'a> {
+    // Before the first record.
+    pub fn new(out: &'a mut [u8]) -> Records<'a>
+        ensures same_reference { result.out.ghost_name ≡ out.entry.ghost_name }
+        ensures start { sheet_of result ≡ sheet out.old 0 }
+    {
+        Records { out, count: 0 }
+    }
+
+    // One record more.
+    pub fn put(&mut self, kind: Kind, left: u16, right: u16)
+        requires { self.old.count < 2 ^ 60 }
+        ensures lent { Lent self.old self.new }
+        ensures put { RecordsPut (clause_record (kind_number kind) (pair left right) ∷ []) (sheet_of self.old) (sheet_of self.new) }
+    {
+        let start = RECORD * self.count;
+        if start + RECORD <= self.out.len() {
+            let l = left.to_le_bytes();
+            let r = right.to_le_bytes();
+            self.out[start..start + RECORD].copy_from_slice(&[
+                kind as u8, 0, l[0], l[1], r[0], r[1], 0, 0,
+            ]);
+        }
+        self.count += 1;
     }
 }
 
 // The marked premises of one row of the square, as records; their marks are taken away.
-fn row_out(found: &mut [bool], u: u16, vertices: u16, out: &mut [u8], at: usize) -> usize
-    requires u_lt_vertices { (u < vertices) × (vertices ≤ 511) × (at + 511 < 2 ^ 60) }
+fn row_out(found: &mut [bool], u: u16, vertices: u16, records: &mut Records<'_>)
+    requires u_lt_vertices { (u < vertices) × (vertices ≤ 511) × (records.old.count + 511 < 2 ^ 60) }
     requires vertices_in_bounds { 511 * vertices ≤ length found.old }
-    ensures { RowOut vertices u at found.old out.old result found.new out.new }
+    ensures lent { Lent records.old records.new }
+    ensures put { RowOut vertices u found.old (sheet_of records.old) found.new (sheet_of records.new) }
 {
-    let mut n = at;
-    let mut v = u + 1;
-    while v < vertices {
-        let k = 511 * (u as usize) + v as usize;
+    for v in u + 1..vertices {
+        let k = ROW * (u as usize) + v as usize;
         if found[k] {
             found[k] = false;
-            put(out, n, 1, u, v);
-            n += 1;
+            records.put(Kind::Premise, u, v);
         }
-        v += 1;
     }
-    n
 }
 
-// All marked premises, as records in ascending order; their marks are taken away. Rows without a mark are passed over.
+// All marked premises, as records in ascending order; their marks are taken away. Rows without a mark are passed over. `clauses_out` goes over a square
+// in the same way and takes no mark away: one function for both would take a closure that changes what it captures, of which nothing is known after.
 pub fn premises_out(
     found: &mut [bool],
     rows: &[bool; 511],
     vertices: u16,
-    out: &mut [u8],
-    at: usize,
-) -> usize
-    requires vertices_bound { (vertices ≤ 511) × (at + 261121 < 2 ^ 60) }
+    records: &mut Records<'_>,
+)
+    requires vertices_bound { (vertices ≤ 511) × (records.old.count + 261121 < 2 ^ 60) }
     requires vertices_in_bounds { (511 * vertices ≤ length found.old) × Covered found.old rows.now }
-    ensures { AllOut vertices at found.old out.old result found.new out.new }
+    ensures lent { Lent records.old records.new }
+    ensures put { AllOut vertices found.old (sheet_of records.old) found.new (sheet_of records.new) }
 {
-    let mut n = at;
-    let mut u = 0u16;
-    while u < vertices {
+    for u in 0..vertices {
         if rows[u as usize] {
-            n = row_out(found, u, vertices, out, n);
+            row_out(found, u, vertices, records);
         }
-        u += 1;
     }
-    n
 }

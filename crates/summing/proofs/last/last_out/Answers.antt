@@ -2,5 +2,5 @@
 use Rattle.summing.proofs.ClausesOut.{last_put}
 use Rattle.summing.proofs.last.last_out.Goals as goal
 
-pub returns : goal.returns
-returns c = last_put _ _ _ _ _ _ _ _ _ _ _ _ _ _ c.outer_premises-n.ensures c.put_last.ensures
+pub returns-clause-put : goal.returns-clause-put
+returns-clause-put c = last_put _ _ _ _ _ _ _ _ c.outer_premises.ensures.put c.put_last.ensures.put

@@ -1,16 +1,15 @@
--- `put_last` meets its contract, by the tests that order the ends.
-use mathlib.Core.List.{List}
-use mathlib.Core.Path.{sym, ap, ◌∙◌}
+-- `put_last` meets its contract, by the test whether the middle stretch is empty.
+use mathlib.Core.Path.{sym, ap₂, ◌∙◌}
 use Prim.Native.Nat.{ℕ}
-use Rattle.summing.specs.Writing.{put_record}
-use Rattle.summing.proofs.ClausesOut.{last_below, last_above, last_empty}
+use Rattle.tables.specs.Words.{pair}
+use Rattle.clauses.specs.Records.{clause_record}
+use Rattle.summing.proofs.RecordsOut.{record_as}
+use Rattle.summing.proofs.ClausesOut.{last_different, last_empty}
 use Rattle.summing.proofs.last.put_last.Goals as goal
 
-pub returns-then-a-b : goal.returns-then-a-b
-returns-then-a-b c = c.put.ensures ∙ ap (λ (x : List ℕ). put_record c.args.at x c.args.out.now) (sym (last_below c.args.stops.now c.args.lo c.args.hi c.if-lo-hi.true c.if-a-b.true))
+pub returns-then-cut-clause-put : goal.returns-then-cut-clause-put
+returns-then-cut-clause-put c =
+    record_as (ap₂ (λ (l r : ℕ). clause_record 3 (pair l r)) c.min.ensures c.max.ensures ∙ sym (last_different c.args.cut.now c.if-cut.true)) c.put.ensures.put
 
-pub returns-else-a-b : goal.returns-else-a-b
-returns-else-a-b c = c.put-else-a-b.ensures ∙ ap (λ (x : List ℕ). put_record c.args.at x c.args.out.now) (sym (last_above c.args.stops.now c.args.lo c.args.hi c.if-lo-hi.true c.if-a-b.false))
-
-pub returns-else-lo-hi : goal.returns-else-lo-hi
-returns-else-lo-hi c = c.put-else-lo-hi.ensures ∙ ap (λ (x : List ℕ). put_record c.args.at x c.args.out.now) (sym (last_empty c.args.stops.now c.args.lo c.args.hi c.if-lo-hi.false))
+pub returns-else-cut-clause-put : goal.returns-else-cut-clause-put
+returns-else-cut-clause-put c = record_as (sym (last_empty c.args.cut.now c.if-cut.false)) c.put-else-cut.ensures.put

@@ -5,4 +5,4 @@ use Rattle.summing.proofs.readings.conclude.Goals as goal
 
 pub returns : goal.returns
 returns c = let o = c.want_outer.ensures in
-    (c.settle.ensures.same ∙ o.after.same ∙ o.before.same ∙ c.want_along.ensures.same, concluded _ _ _ _ _ _ c.args.pairs.now c.args.rows.now _ _ _ _ _ _ _ _ _ _ _ _ c.requires.rows_of.1 c.want_along.ensures o c.settle.ensures)
+    (c.settle.ensures.same ∙ o.after.same ∙ o.before.same ∙ c.want_along.ensures.same, concluded _ _ c.args.pairs.now _ _ _ _ _ _ _ c.requires.clear c.none-marks.ensures c.want_along.ensures o c.settle.ensures)

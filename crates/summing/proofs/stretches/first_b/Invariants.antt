@@ -1,10 +1,6 @@
 -- `first_b` meets its contract: no stop passed is in B.
-use Prim.Native.Nat.{◌-◌}
 use Rattle.summing.proofs.Stretching.{FirstTo}
 use Rattle.summing.proofs.stretches.first_b.Given as goal
 
 abbrev pub invariant-loop-i : goal.invariant-loop-i
-invariant-loop-i l = FirstTo l.colours l.stops l.hops l.i
-
-abbrev pub decreases-loop-i : goal.decreases-loop-i
-decreases-loop-i l = l.hops - l.i
+invariant-loop-i l = FirstTo l.colours l.path l.i

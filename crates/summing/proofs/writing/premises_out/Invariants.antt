@@ -1,10 +1,8 @@
 -- `premises_out` meets its contract: the rows passed are written and cleared.
-use Prim.Native.Nat.{◌-◌}
+use Rattle.summing.specs.Writing.{sheet_of, Lent}
 use Rattle.summing.proofs.RecordsOut.{RowsTo}
 use Rattle.summing.proofs.writing.premises_out.Given as goal
 
 abbrev pub invariant-loop-u : goal.invariant-loop-u
-invariant-loop-u l = RowsTo l.vertices l.at l.initial.found l.initial.out l.u l.n l.found l.out
-
-abbrev pub decreases-loop-u : goal.decreases-loop-u
-decreases-loop-u l = l.vertices - l.u
+invariant-loop-u l =
+    Lent l.initial.records l.records × RowsTo l.vertices l.initial.found (sheet_of l.initial.records) l.u l.found (sheet_of l.records)
