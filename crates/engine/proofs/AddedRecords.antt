@@ -16,7 +16,7 @@ use Rattle.running.specs.declared.state.State.{State as Arrays}
 use Rattle.running.proofs.Arrays.{padded_at}
 use Rattle.running.proofs.Showing.{shown_symbol, shown_arity, shown_row}
 use Rattle.demands.specs.Buffers.{term_bytes}
-use Rattle.engine.specs.Ending.{Ends, terms_in, literals_in, record_bytes, record_in}
+use Rattle.engine.specs.Ending.{Ends, terms_in, literals_in, record_bytes, record_in, records_bytes}
 use Rattle.demands.proofs.AddedTerms.{added_bytes, laid, term_bytes_laid}
 use Rattle.demands.proofs.Partition.{flat_map_of_map}
 use Rattle.engine.proofs.Searches.{count_is}
@@ -51,21 +51,21 @@ module _ (t : Tables) (s : Arrays) (w : Ends t s) where
   added_at k = ap (λ (n : ℕ). term_at table (n + k)) (count_is t s w) ∙ get_or-append-add ts ms k no_term
 
   -- so its record is there
-  record_is : (k : ℕ) → k < length ms → record_in t.terms s.symbols s.arities s.rows k ≡ term_bytes (term_at ms k)
+  record_is : (k : ℕ) → k < length ms → record_in t.terms s k ≡ term_bytes (term_at ms k)
   record_is k h =
       let v = t.terms + k in
       let l : v < length table = omega (arith, length-append ts ms, count_is t s w) in
       let symbol = shown_symbol ts (literals_in w.from) w.state s w.shows v l in
       let arity = shown_arity ts (literals_in w.from) w.state s w.shows v l in
       let row = shown_row ts (literals_in w.from) w.state s w.shows v l in
-      (λ i. record_bytes (symbol i) (arity i) (row i).args) ∙ record_term (term_at table v) ∙ ap term_bytes (added_at k)
+      (λ i. record_bytes (symbol i) (arity i) (row i)) ∙ record_term (term_at table v) ∙ ap term_bytes (added_at k)
 
   -- and all records are the bytes of the added terms
-  pub records_are : flat_map (record_in t.terms s.symbols s.arities s.rows) (below (s.terms - t.terms)) ≡ added_bytes ms
+  pub records_are : records_bytes t.terms s ≡ added_bytes ms
   records_are =
       let count : s.terms - t.terms ≡ length ms = omega (arith, all_terms) in
       let named : ℕ → List ℕ = λ k. term_bytes (term_at ms k) in
-      ap (λ (n : ℕ). flat_map (record_in t.terms s.symbols s.arities s.rows) (below n)) count ∙
-      flat_map_agree (record_in t.terms s.symbols s.arities s.rows) named (below (length ms)) (λ k m. record_is k (below_mem (length ms) m)) ∙
+      ap (λ (n : ℕ). flat_map (record_in t.terms s) (below n)) count ∙
+      flat_map_agree (record_in t.terms s) named (below (length ms)) (λ k m. record_is k (below_mem (length ms) m)) ∙
       flat_map_of_map named (below (length ms)) ∙
       ap (flat_map (λ r. r)) (sym (map-map term_bytes (term_at ms) (below (length ms))) ∙ ap (map term_bytes) (get_d_below no_term ms))

@@ -98,7 +98,7 @@ module _ (t : Tables) (s : Arrays) (d : ℕ) (w : Decides t s d) (bs : Buffers) 
       sym (ap₂ tested (room terms bs.added (omega (arith, terms_length))) (short clauses bs.clauses (omega (arith, records_length))))
 
   -- both have room, and are written
-  pub both_room : 16 * (s.terms - t.terms) ≤ length bs.added → (count : ℕ) → count ≡ length (records_for w) → count ≤ length bs.clauses / 8 → (out-added out-clauses : List ℕ) → out-added ≡ written_over (records_bytes t.terms (s.terms - t.terms) s.symbols s.arities s.rows) bs.added → out-clauses ≡ written_over clauses bs.clauses → with_both (s.terms - t.terms) count out-added out-clauses ≡ inconsistent bs d (map term_bytes ms) (records_for w)
+  pub both_room : 16 * (s.terms - t.terms) ≤ length bs.added → (count : ℕ) → count ≡ length (records_for w) → count ≤ length bs.clauses / 8 → (out-added out-clauses : List ℕ) → out-added ≡ written_over (records_bytes t.terms s) bs.added → out-clauses ≡ written_over clauses bs.clauses → with_both (s.terms - t.terms) count out-added out-clauses ≡ inconsistent bs d (map term_bytes ms) (records_for w)
   unfolding inconsistent
   both_room g count e h out-added out-clauses p q =
       let added : s.terms - t.terms ≡ length (map term_bytes ms) = added_count ∙ sym (length-map ms term_bytes) in

@@ -1,9 +1,8 @@
 -- The searches of the verdict, by the arrays: what the code tests of a record or a term is what the definitions test.
+use Rattle.std.proofs.Common.{Option, unwrap_or}
 use mathlib.Core.Bool.{Bool, true, false, cond, not, ◌&&◌}
 use mathlib.Core.List.{List, flat_map}
-use mathlib.Core.Option
-use mathlib.Core.Option.{Option}
-use mathlib.Core.Path.{◌≡◌, sym, ap, ap₂, ◌∙◌}
+use mathlib.Core.Path.{◌≡◌, refl, sym, ap, ap₂, ◌∙◌}
 use Prim.Native.Nat.{ℕ, ◌<◌}
 use native.Mathlib.Omega.{arith}
 use lib.Dec.{eqb}
@@ -11,21 +10,21 @@ use lib.ListN.{length, get_or}
 use Rattle.tables.specs.Words.{below, first_below}
 use Rattle.tables.specs.Bytes.{word_bytes}
 use Rattle.tables.specs.TermTable.{term_count}
-use Rattle.tables.specs.LiteralTable.{literal_count, literal_record}
+use Rattle.tables.specs.LiteralTable.{is_equal, literal_count, literal_record, literal_of}
+use Rattle.tables.specs.declared.Literal.{Literal}
 use Rattle.tables.specs.Colours.{is_in_use}
 use Rattle.tables.specs.Read.{sound_tables}
 use Rattle.tables.specs.declared.Tables.{Tables}
 use Rattle.tables.proofs.Words.{below_mem, first_below_agree, flat_map_agree}
 use Rattle.tables.proofs.Filled.{filled_at}
 use Rattle.tables.proofs.Sound.{length_terms_of}
-use Rattle.reading.specs.Fields.{fields_of}
 use Rattle.closure.specs.Graph.{label, joined}
 use Rattle.running.specs.declared.state.State.{State as Arrays}
 use Rattle.running.proofs.Beginning.{sound_tables_is, read_sound, terms_are, terms_fit}
-use Rattle.running.proofs.BasicSteps.{length_literals, left_is, right_is, kind_is, sides_small}
+use Rattle.running.proofs.BasicSteps.{length_literals, literal_is, sides_small}
 use Rattle.running.proofs.Showing.{shown_label}
 use Rattle.closure.proofs.Walking.Joined.{joined_by}
-use Rattle.clauses.specs.Reading.{literal_at, contradicted, critical}
+use Rattle.clauses.specs.Reading.{contradicted, critical}
 use Rattle.clauses.proofs.Critical.{contradicted_by, critical_by}
 use Rattle.demands.specs.Buffers.{class_number, partition_bytes}
 use Rattle.engine.specs.Ending.{Ends, terms_in, literals_in, met_by, class_by}
@@ -45,13 +44,11 @@ module _ (t : Tables) (s : Arrays) (w : Ends t s) where
   met_is : (i : ℕ) → i < literal_count ls → met_by ls s.labels i ≡ contradicted (literals_in w.from) w.state.graph i
   met_is i h =
       let G = w.state.graph in
-      let f = fields_of (literal_record ls i) in
-      let small = sides_small bs ls w.from.sound i h in
-      ap₂ (λ (x y : Bool). x && y) (ap not (kind_is bs ls w.from.sound i h))
-      (ap₂ eqb
-      (label_in f.left (omega (arith, small.0)) ∙ ap (label G) (left_is bs ls w.from.sound i h))
-      (label_in f.right (omega (arith, small.1)) ∙ ap (label G) (right_is bs ls w.from.sound i h)) ∙
-      sym (joined_by G (literal_at (literals_in w.from) i).left (literal_at (literals_in w.from) i).right)) ∙
+      let l = literal_of (literal_record ls i) in
+      let small = sides_small bs ls w.from.sound i h refl in
+      ap (λ (b : Bool). not (is_equal l.kind) && b)
+      (ap₂ eqb (label_in l.left (omega (arith, small.0))) (label_in l.right (omega (arith, small.1))) ∙ sym (joined_by G l.left l.right)) ∙
+      ap (λ (x : Literal). not (is_equal x.kind) && joined G x.left x.right) (literal_is bs ls w.from.sound i h refl) ∙
       sym (contradicted_by (literals_in w.from) G i)
 
   -- so the first record of the literals that are lent which meets the test is the critical one
@@ -72,12 +69,12 @@ module _ (used : List Bool) (labels : List ℕ) (n t : ℕ) where
   -- a term that is not in use
   pub class_idle_by : get_or used t false ≡ false → 65535 ≡ class_by used labels n t
   unfolding class_by
-  class_idle_by e = sym (ap (λ (b : Bool). cond b (Option.get_or (first_below (alike used labels t) n) 65535) 65535) e)
+  class_idle_by e = sym (ap (λ (b : Bool). cond b (unwrap_or (first_below (alike used labels t) n) 65535) 65535) e)
 
   -- a term in use
-  pub class_used_by : get_or used t false ≡ true → (o : Option ℕ) → o ≡ first_below (alike used labels t) n → Option.get_or o 65535 ≡ class_by used labels n t
+  pub class_used_by : get_or used t false ≡ true → (o : Option ℕ) → o ≡ first_below (alike used labels t) n → unwrap_or o 65535 ≡ class_by used labels n t
   unfolding class_by
-  class_used_by e o q = ap (λ (x : Option ℕ). Option.get_or x 65535) q ∙ sym (ap (λ (b : Bool). cond b (Option.get_or (first_below (alike used labels t) n) 65535) 65535) e)
+  class_used_by e o q = ap (λ (x : Option ℕ). unwrap_or x 65535) q ∙ sym (ap (λ (b : Bool). cond b (unwrap_or (first_below (alike used labels t) n) 65535) 65535) e)
 
 module _ (t : Tables) (s : Arrays) (w : Ends t s) where
   -- as many terms as there are records
@@ -101,7 +98,7 @@ module _ (t : Tables) (s : Arrays) (w : Ends t s) where
       let ls = literals_in w.from in
       let G = w.state.graph in
       let few = terms_fit t w.from in
-      ap₂ (λ (b : Bool) (o : Option ℕ). cond b (Option.get_or o 65535) 65535) (used_in k h)
+      ap₂ (λ (b : Bool) (o : Option ℕ). cond b (unwrap_or o 65535) 65535) (used_in k h)
       (first_below_agree (alike t.used s.labels k) (λ u. is_in_use ts ls u && joined G u k) t.terms
       (λ u l. ap₂ (λ (x y : Bool). x && y) (used_in u l) (ap₂ eqb (label_in t s w u (omega arith)) (label_in t s w k (omega arith)) ∙ sym (joined_by G u k))) ∙
       ap (first_below (λ u. is_in_use ts ls u && joined G u k)) count_is)

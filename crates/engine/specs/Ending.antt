@@ -1,22 +1,16 @@
 -- What the verdict is read off: tables that no row of the checks refuses, and the arrays of the last state of the library's own run over them.
-use Rattle.std.specs.Prelude.{Bool, false, cond, not, ◌&&◌, ◌≡◌, ℕ, ◌+◌, ◌*◌, ◌/◌, ◌%◌, ◌≤◌, ◌<◌, eqb, ltb, length, get_or}
+use Rattle.std.specs.Prelude.{Bool, false, cond, not, ◌&&◌, ◌≡◌, ℕ, ◌+◌, ◌-◌, ◌*◌, ◌/◌, ◌%◌, ◌≤◌, ◌<◌, eqb, ltb, length, get_or, Some, unwrap_or}
 use mathlib.Core.List.{List, [], ◌∷◌, ◌++◌, flat_map}
-use Rattle.std.proofs.Math.Option
-use Rattle.std.proofs.Math.Option.{some}
 use Rattle.tables.specs.Words.{below, first_below}
 use Rattle.tables.specs.Bytes.{word_bytes}
 use Rattle.tables.specs.Terms.{Term}
 use Rattle.tables.specs.TermTable.{terms_of}
-use Rattle.tables.specs.LiteralTable.{Literal, literal_count, literal_record, literals_of}
+use Rattle.tables.specs.LiteralTable.{is_equal, literal_count, literal_record, literal_of, literals_of}
+use Rattle.tables.specs.declared.Literal.{Literal}
 use Rattle.tables.specs.declared.Tables.{Tables}
-use Rattle.reading.specs.Fields.{fields_of}
-use Rattle.reading.specs.declared.literal.Fields.{Fields}
 use Rattle.closure.specs.Steps.{State}
 use Rattle.closure.specs.OwnRun.{own_run}
 use Rattle.running.specs.Shown.{Shows}
-use Rattle.running.specs.Keys.{no_row}
-use Rattle.graphs.specs.declared.graph.Graph.{Graph}
-use Rattle.running.specs.declared.Row.{Row}
 use Rattle.running.specs.Opening.{ReadFrom}
 use Rattle.running.specs.declared.state.State.{State as Arrays}
 use Rattle.clauses.specs.Reading.{literal_at, critical}
@@ -34,18 +28,13 @@ literals_in from = literals_of from.literals
 pub record Ends (t : Tables) (s : Arrays) : Type 0 where
   pub from : ReadFrom t
   pub state : State
-  pub last : own_run (terms_in from) (literals_in from) ≡ some state
+  pub last : own_run (terms_in from) (literals_in from) ≡ Some state
   pub shows : Shows (terms_in from) (literals_in from) state s
 
 -- and d is the critical disequality there
 pub record Decides (t : Tables) (s : Arrays) (d : ℕ) : Type 0 where
   pub ends : Ends t s
-  pub found : critical (literals_in ends.from) ends.state.graph ≡ some d
-
--- the arrays of a state that are lent one by one, and what else the state has
-abbrev pub lent_of : Arrays → Graph → List Row → List ℕ → List ℕ → List ℕ → List ℕ → ℕ → Arrays
-lent_of s graph rows labels symbols arities colours terms =
-    record { terms = terms; symbols = symbols; arities = arities; rows = rows; colours = colours; vertices = s.vertices; graph = graph; labels = labels; stuck = s.stuck }
+  pub found : critical (literals_in ends.from) ends.state.graph ≡ Some d
 
 -- the clause records of that disequality
 abbrev pub records_for : {t : Tables} {s : Arrays} {d : ℕ} → Decides t s d → List (List ℕ)
@@ -59,20 +48,20 @@ pub record Written (rs : List (List ℕ)) (buffer : List ℕ) (count : ℕ) (out
 
 -- the sides of all records have a label
 abbrev pub SidesLabelled : List ℕ → Type 0
-SidesLabelled ls = (i : ℕ) → i < literal_count ls → ((fields_of (literal_record ls i)).left < 511) × ((fields_of (literal_record ls i)).right < 511)
+SidesLabelled ls = (i : ℕ) → i < literal_count ls → ((literal_of (literal_record ls i)).left < 511) × ((literal_of (literal_record ls i)).right < 511)
 
--- the test of a record's fields by the labels: its kind is not 1, and its sides have one label
-abbrev pub meets : List ℕ → Fields → Bool
-meets labels f = not (eqb f.kind 1) && eqb (get_or labels f.left 0) (get_or labels f.right 0)
+-- a record is a disequality whose sides have one label
+abbrev pub meets : List ℕ → Literal → Bool
+meets labels l = not (is_equal l.kind) && eqb (get_or labels l.left 0) (get_or labels l.right 0)
 
 -- the same of the record's number
 abbrev pub met_by : List ℕ → List ℕ → ℕ → Bool
-met_by ls labels i = meets labels (fields_of (literal_record ls i))
+met_by ls labels i = meets labels (literal_of (literal_record ls i))
 
 -- a class number by the marks of the terms in use and the labels of all terms, among the first n terms
 unfoldable pub class_by : List Bool → List ℕ → ℕ → ℕ → ℕ
 class_by used labels n t =
-    let lowest = Option.get_or (first_below (λ u. get_or used u false && eqb (get_or labels u 0) (get_or labels t 0)) n) 65535 in
+    let lowest = unwrap_or (first_below (λ u. get_or used u false && eqb (get_or labels u 0) (get_or labels t 0)) n) 65535 in
     cond (get_or used t false) lowest 65535
 
 -- the class numbers of the first n terms, two bytes each
@@ -87,12 +76,12 @@ record_bytes symbol arity row =
     (0 ∷ 0 ∷ 0 ∷ 0 ∷ [])
 
 -- the record of the term at a place behind the given ones
-abbrev pub record_in : ℕ → List ℕ → List ℕ → List Row → ℕ → List ℕ
-record_in given symbols arities rows k = record_bytes (get_or symbols (given + k) 0) (get_or arities (given + k) 0) (get_or rows (given + k) no_row).args
+abbrev pub record_in : ℕ → Arrays → ℕ → List ℕ
+record_in given s k = record_bytes (get_or s.symbols (given + k) 0) (get_or s.arities (given + k) 0) (get_or s.rows (given + k) [])
 
 -- and of all of them
-abbrev pub records_bytes : ℕ → ℕ → List ℕ → List ℕ → List Row → List ℕ
-records_bytes given count symbols arities rows = flat_map (record_in given symbols arities rows) (below count)
+abbrev pub records_bytes : ℕ → Arrays → List ℕ
+records_bytes given s = flat_map (record_in given s) (below (s.terms - given))
 
 -- the ends of the first edges are terms
 abbrev pub EndsIn : List ℕ → ℕ → Type 0
@@ -104,10 +93,10 @@ PlacesOf lefts derived arities count places =
     (i : ℕ) → i < count → get_or places i 0 ≡ cond (get_or derived i false) (get_or arities (get_or lefts i 0) 0) 0
 
 -- the field at place k of the edges' ends, eight for each edge: four of the left end's row, and four of the right end's
-abbrev pub parent_at : List Row → List ℕ → List ℕ → ℕ → ℕ
+abbrev pub parent_at : List (List ℕ) → List ℕ → List ℕ → ℕ → ℕ
 parent_at rows lefts rights k =
-    get_or (get_or rows (cond (ltb (k % 8) 4) (get_or lefts (k / 8) 0) (get_or rights (k / 8) 0)) no_row).args (k % 4) 0
+    get_or (get_or rows (cond (ltb (k % 8) 4) (get_or lefts (k / 8) 0) (get_or rights (k / 8) 0)) []) (k % 4) 0
 
 -- the fields of the first edges stand one behind the other
-abbrev pub ParentsOf : List Row → List ℕ → List ℕ → ℕ → List ℕ → Type 0
+abbrev pub ParentsOf : List (List ℕ) → List ℕ → List ℕ → ℕ → List ℕ → Type 0
 ParentsOf rows lefts rights count parents = (k : ℕ) → k < 8 * count → get_or parents k 0 ≡ parent_at rows lefts rights k

@@ -1,17 +1,16 @@
 // The records of the added terms.
 
-ghost use Rattle.std.specs.Prelude.{◌≡◌, ◌+◌, ◌*◌, ◌≤◌, length};
+ghost use Rattle.std.specs.Prelude.{◌≡◌, ◌-◌, ◌*◌, ◌≤◌, length};
 ghost use Rattle.demands.specs.Buffers.{written_over};
 ghost use Rattle.engine.specs.Ending.{record_bytes, records_bytes};
 
 use super::bytes;
-use running::Row;
+use running::state::State;
 
 // "Term record, 16 bytes": the symbol, the arity, the arguments, and zeros.
-pub fn term_record(symbol: u16, arity: u8, row: Row) -> [u8; 16]
-    ensures { result ≡ record_bytes symbol arity row.args }
+fn term_record(symbol: u16, arity: u8, args: [u16; 4]) -> [u8; 16]
+    ensures { result ≡ record_bytes symbol arity args }
 {
-    let args = row.args;
     let f = bytes::word(symbol);
     let a = bytes::word(args[0]);
     let b = bytes::word(args[1]);
@@ -22,23 +21,14 @@ pub fn term_record(symbol: u16, arity: u8, row: Row) -> [u8; 16]
     ]
 }
 
-// "the added terms (16 bytes each, numbered on from n in order of adding)"; the bytes past them stay.
-pub fn write_added<'a>(
-    symbols: &'a [u16; 511],
-    arities: &'a [u8; 511],
-    rows: [Row; 511],
-    given: usize,
-    count: usize,
-    added: &mut [u8],
-)
-    requires { (given + count ≤ 511) × (16 * count ≤ length added.old) }
-    ensures { added.new ≡ written_over (records_bytes given count symbols.now arities.now rows) added.old }
+// "the added terms (16 bytes each, numbered on from n in order of adding)": those behind the given ones; the bytes past them stay.
+pub fn write_added(end: &State, given: usize, added: &mut [u8])
+    requires { (given ≤ end.now.terms) × (end.now.terms ≤ 511) × (16 * (end.now.terms - given) ≤ length added.old) }
+    ensures { added.new ≡ written_over (records_bytes given end.now) added.old }
 {
-    let mut i = 0;
-    while i < count {
+    for i in 0..end.terms - given {
         let v = given + i;
-        let record = term_record(symbols[v], arities[v], rows[v]);
+        let record = term_record(end.symbols[v], end.arities[v], end.rows[v]);
         bytes::put(&record, 16 * i, added);
-        i += 1;
     }
 }

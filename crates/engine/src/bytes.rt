@@ -8,7 +8,7 @@ ghost use Rattle.demands.specs.Buffers.{written_over};
 pub fn word(n: u16) -> [u8; 2]
     ensures { result ≡ word_bytes n }
 {
-    [(n % 256) as u8, (n / 256) as u8]
+    n.to_le_bytes()
 }
 
 // Bytes from a place on; what stands before and behind them stays.
@@ -16,9 +16,5 @@ pub fn put(bytes: &[u8], at: usize, out: &mut [u8])
     requires { at + length bytes.now ≤ length out.old }
     ensures { out.new ≡ written_over (take at out.old ++ bytes.now) out.old }
 {
-    let mut j = 0;
-    while j < bytes.len() {
-        out[at + j] = bytes[j];
-        j += 1;
-    }
+    out[at..at + bytes.len()].copy_from_slice(bytes);
 }

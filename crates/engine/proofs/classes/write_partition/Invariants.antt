@@ -1,14 +1,8 @@
--- `engine::classes::write_partition` meets its contract. The invariant: the class numbers of the terms passed are written. The measure is what is left of them.
-use mathlib.Core.Path.{◌≡◌}
-use Prim.Native.Nat.{◌-◌, ◌≤◌}
-use lib.ListN.{length}
+-- `engine::classes::write_partition` meets its contract. The invariant: the class numbers of the terms passed are written.
 use Rattle.tables.specs.Bytes.{word_bytes}
 use Rattle.engine.specs.Ending.{class_by}
 use Rattle.engine.proofs.Writing.{Written}
 use Rattle.engine.proofs.classes.write_partition.Given as goal
 
 abbrev pub invariant-loop-i : goal.invariant-loop-i
-invariant-loop-i l = (l.i ≤ l.n) × (length l.partition ≡ length l.initial.partition) × Written (λ k. word_bytes (class_by l.used l.labels l.n k)) l.i l.initial.partition l.partition
-
-abbrev pub decreases-loop-i : goal.decreases-loop-i
-decreases-loop-i l = l.n - l.i
+invariant-loop-i l = Written (λ k. word_bytes (class_by l.used l.labels l.n k)) l.i l.initial.partition l.partition
