@@ -11,11 +11,9 @@ use Rattle.tables.specs.Words.{below, Pair}
 use Rattle.tables.specs.Bytes.{byte_at, word_at, record_at}
 use Rattle.tables.proofs.Words.{below_none, below_more}
 use Rattle.clauses.specs.ReadBack.{pair_read, conclusion_read, clauses_after, clauses_read}
-use Rattle.clauses.proofs.Records.{equal_read, different_read, false_read, after_last, after_premise, after_conclusion, clauses_first}
-use Rattle.report.specs.Page.{Page, puts}
-use Rattle.report.specs.Text.{ascii, pair_text, and_pair, premises_text, conclusion_text, clause_line}
+use Rattle.clauses.proofs.Records.{pair_words, equal_read, different_read, false_read, after_last, after_premise, after_conclusion, clauses_first}
+use Rattle.report.specs.Text.{ascii, decimal, pair_text, and_pair, premises_text, conclusion_text, clause_line}
 use Rattle.report.specs.Records.{up_from, pairs_from, clause_of}
-use Rattle.report.proofs.Pages.{and_then, puts_append}
 
 -- a record's byte by its place in the buffer
 pub byte_in_record : (bs : List ℕ) (j k : ℕ) → k < 8 → byte_at (record_at 8 bs j) k ≡ byte_at bs (8 * j + k)
@@ -26,28 +24,31 @@ pub word_in_record : (bs : List ℕ) (j k : ℕ) → k + 1 < 8 → word_at (reco
 word_in_record bs j k h =
     ap₂ (λ (low high : ℕ). low + 256 * high) (byte_in_record bs j k (omega arith)) (byte_in_record bs j (k + 1) h ∙ ap (byte_at bs) (sym (add_assoc (8 * j) k 1)))
 
+-- the text of a record's pair by its words' places in the buffer
+pub pair_shown : (sign bs : List ℕ) (j : ℕ) → pair_text sign (pair_read (record_at 8 bs j)) ≡ decimal (word_at bs (8 * j + 2)) ++ sign ++ decimal (word_at bs (8 * j + 4))
+unfolding pair_text
+pair_shown sign bs j = ap (pair_text sign) (pair_words (record_at 8 bs j)) ∙ ap₂ (λ (left right : ℕ). decimal left ++ sign ++ decimal right) (word_in_record bs j 2 (omega arith)) (word_in_record bs j 4 (omega arith))
+
 -- a record's kind by its place in the buffer
-kind_at : (bs : List ℕ) (j kind : ℕ) → kind ≡ byte_at bs (8 * j) → byte_at (record_at 8 bs j) 0 ≡ kind
-kind_at bs j kind h = byte_in_record bs j 0 (omega arith) ∙ ap (byte_at bs) (add-zero (8 * j)) ∙ sym h
+kind_at : (bs : List ℕ) (j : ℕ) → byte_at (record_at 8 bs j) 0 ≡ byte_at bs (8 * j)
+kind_at bs j = byte_in_record bs j 0 (omega arith) ∙ ap (byte_at bs) (add-zero (8 * j))
 
 -- ---- conclusions
 
 -- kind 2 concludes an equality
-pub conclusion_equal : (bs : List ℕ) (j kind : ℕ) → kind ≡ byte_at bs (8 * j) → kind ≡ 2 → conclusion_text (conclusion_read (record_at 8 bs j)) ≡ pair_text (ascii "=") (pair_read (record_at 8 bs j))
+pub conclusion_equal : (bs : List ℕ) (j : ℕ) → byte_at bs (8 * j) ≡ 2 → conclusion_text (conclusion_read (record_at 8 bs j)) ≡ pair_text (ascii "=") (pair_read (record_at 8 bs j))
 unfolding conclusion_text
-conclusion_equal bs j kind h e = ap conclusion_text (equal_read (record_at 8 bs j) (kind_at bs j kind h ∙ e))
+conclusion_equal bs j e = ap conclusion_text (equal_read (record_at 8 bs j) (kind_at bs j ∙ e))
 
 -- kind 3 concludes a disequality
-pub conclusion_different : (bs : List ℕ) (j kind : ℕ) → kind ≡ byte_at bs (8 * j) → kind ≡ 3 → conclusion_text (conclusion_read (record_at 8 bs j)) ≡ pair_text (ascii "!=") (pair_read (record_at 8 bs j))
+pub conclusion_different : (bs : List ℕ) (j : ℕ) → byte_at bs (8 * j) ≡ 3 → conclusion_text (conclusion_read (record_at 8 bs j)) ≡ pair_text (ascii "!=") (pair_read (record_at 8 bs j))
 unfolding conclusion_text
-conclusion_different bs j kind h e = ap conclusion_text (different_read (record_at 8 bs j) (kind_at bs j kind h ∙ e))
+conclusion_different bs j e = ap conclusion_text (different_read (record_at 8 bs j) (kind_at bs j ∙ e))
 
 -- any other kind concludes false
-pub conclusion_false : (bs : List ℕ) (j kind : ℕ) → kind ≡ byte_at bs (8 * j) → (kind ≡ 2 → ⊥) → (kind ≡ 3 → ⊥) → conclusion_text (conclusion_read (record_at 8 bs j)) ≡ ascii "false"
+pub conclusion_false : (bs : List ℕ) (j : ℕ) → (byte_at bs (8 * j) ≡ 2 → ⊥) → (byte_at bs (8 * j) ≡ 3 → ⊥) → conclusion_text (conclusion_read (record_at 8 bs j)) ≡ ascii "false"
 unfolding conclusion_text
-conclusion_false bs j kind h not-two not_three =
-    let same = sym (kind_at bs j kind h) in
-    ap conclusion_text (false_read (record_at 8 bs j) (λ e. not-two (same ∙ e)) (λ e. not_three (same ∙ e)))
+conclusion_false bs j not-two not_three = ap conclusion_text (false_read (record_at 8 bs j) (λ e. not-two (sym (kind_at bs j) ∙ e)) (λ e. not_three (sym (kind_at bs j) ∙ e)))
 
 -- ---- numbers from one on
 
@@ -107,18 +108,14 @@ unfolding flat_map
 and_last [] p = append-nil (and_pair p)
 and_last (q ∷ ps) p = ap (λ (bs : List ℕ). and_pair q ++ bs) (and_last ps p) ∙ sym (append_assoc (and_pair q) (flat_map and_pair ps) (and_pair p))
 
--- one premise more is written
-pub premise_more : (p : Page) (bs : List ℕ) (s j : ℕ) {q r : Page} → q ≡ puts p (flat_map and_pair (pairs_from bs s (j - s))) → r ≡ puts q (and_pair (pair_read (record_at 8 bs j))) → s ≤ j → r ≡ puts p (flat_map and_pair (pairs_from bs s (j + 1 - s)))
-premise_more p bs s j h k l = and_then p (flat_map and_pair (pairs_from bs s (j - s))) (and_pair (pair_read (record_at 8 bs j))) h k ∙ ap (puts p) (sym (ap (flat_map and_pair) (pairs_more bs s j l) ∙ and_last (pairs_from bs s (j - s)) (pair_read (record_at 8 bs j))))
+-- the premises from the first to one, and that one
+pub premises_more : (bs : List ℕ) (s j : ℕ) → s ≤ j → flat_map and_pair (pairs_from bs s (j + 1 - s)) ≡ flat_map and_pair (pairs_from bs s (j - s)) ++ and_pair (pair_read (record_at 8 bs j))
+premises_more bs s j l = ap (flat_map and_pair) (pairs_more bs s j l) ∙ and_last (pairs_from bs s (j - s)) (pair_read (record_at 8 bs j))
 
--- before the first none is
-pub no_premise : (p : Page) (bs : List ℕ) (s : ℕ) → p ≡ puts p (flat_map and_pair (pairs_from bs s (s - s)))
-unfolding puts flat_map
-no_premise p bs s = sym (ap (λ (ps : List Pair). puts p (flat_map and_pair ps)) (pairs_none bs s s refl))
-
--- behind the last all are
-pub all_premises : (p : Page) (bs : List ℕ) (s i j : ℕ) {q : Page} → q ≡ puts p (flat_map and_pair (pairs_from bs s (i - s))) → i ≤ j → j ≤ i → q ≡ puts p (flat_map and_pair (pairs_from bs s (j - s)))
-all_premises p bs s i j h k l = h ∙ ap (λ (m : ℕ). puts p (flat_map and_pair (pairs_from bs s (m - s)))) (omega arith)
+-- there are none before the first
+pub premises_none : (bs : List ℕ) (s : ℕ) → flat_map and_pair (pairs_from bs s (s - s)) ≡ []
+unfolding flat_map
+premises_none bs s = ap (flat_map and_pair) (pairs_none bs s s refl)
 
 -- a clause without premises
 pub text_none : (bs : List ℕ) (s j : ℕ) → s ≡ j → premises_text (pairs_from bs s (j - s)) ≡ ascii "-> "
@@ -157,29 +154,19 @@ at_record : (bs : List ℕ) (ps : List Pair) (i k : ℕ) → i < k → clauses_a
 at_record bs ps i k h = ap (λ (ks : List ℕ). clauses_after ps (map (record_at 8 bs) ks)) (up_from_first i k h)
 
 -- so the lines that are left at a premise are those left behind it,
-pub left_premise : (bs : List ℕ) (s i k kind : ℕ) → kind ≡ byte_at bs (8 * i) → kind ≡ 1 → s ≤ i → i < k → left bs s i k ≡ left bs s (i + 1) k
+pub left_premise : (bs : List ℕ) (s i k : ℕ) → byte_at bs (8 * i) ≡ 1 → s ≤ i → i < k → left bs s i k ≡ left bs s (i + 1) k
 unfolding left
-left_premise bs s i k kind e one h l =
+left_premise bs s i k one h l =
     ap (flat_map clause_line)
     (at_record bs (pairs_from bs s (i - s)) i k l ∙
-    after_premise (pairs_from bs s (i - s)) (record_at 8 bs i) (map (record_at 8 bs) (up_from (i + 1) (k - (i + 1)))) (kind_at bs i kind e ∙ one) ∙
+    after_premise (pairs_from bs s (i - s)) (record_at 8 bs i) (map (record_at 8 bs) (up_from (i + 1) (k - (i + 1)))) (kind_at bs i ∙ one) ∙
     ap (λ (ps : List Pair). clauses_after ps (map (record_at 8 bs) (up_from (i + 1) (k - (i + 1))))) (sym (pairs_more bs s i h)))
 
 -- and at a conclusion the clause's own line is the first of them
-pub left_clause : (bs : List ℕ) (s i k kind : ℕ) → kind ≡ byte_at bs (8 * i) → (kind ≡ 1 → ⊥) → i < k → left bs s i k ≡ clause_line (clause_of bs s i) ++ left bs (i + 1) (i + 1) k
+pub left_clause : (bs : List ℕ) (s i k : ℕ) → (byte_at bs (8 * i) ≡ 1 → ⊥) → i < k → left bs s i k ≡ clause_line (clause_of bs s i) ++ left bs (i + 1) (i + 1) k
 unfolding left clause_of flat_map
-left_clause bs s i k kind e not-one l =
+left_clause bs s i k not-one l =
     ap (flat_map clause_line)
     (at_record bs (pairs_from bs s (i - s)) i k l ∙
-    after_conclusion (pairs_from bs s (i - s)) (record_at 8 bs i) (map (record_at 8 bs) (up_from (i + 1) (k - (i + 1)))) (λ one. not-one (sym (kind_at bs i kind e) ∙ one)) ∙
+    after_conclusion (pairs_from bs s (i - s)) (record_at 8 bs i) (map (record_at 8 bs) (up_from (i + 1) (k - (i + 1)))) (λ one. not-one (sym (kind_at bs i) ∙ one)) ∙
     ap (λ (ps : List Pair). clause_of bs s i ∷ clauses_after ps (map (record_at 8 bs) (up_from (i + 1) (k - (i + 1))))) (sym (pairs_none bs (i + 1) (i + 1) refl)))
-
--- what is written and what is left are all lines: a clause's line goes from the second to the first
-pub line_more : (p q : Page) (bs : List ℕ) (s i k kind : ℕ) {r : Page} → puts q (left bs s i k) ≡ p → r ≡ puts q (clause_line (clause_of bs s i)) → kind ≡ byte_at bs (8 * i) → (kind ≡ 1 → ⊥) → i < k → puts r (left bs (i + 1) (i + 1) k) ≡ p
-line_more p q bs s i k kind h line e not-one l =
-    ap (λ (w : Page). puts w (left bs (i + 1) (i + 1) k)) line ∙ sym (puts_append q (clause_line (clause_of bs s i)) (left bs (i + 1) (i + 1) k)) ∙ ap (puts q) (sym (left_clause bs s i k kind e not-one l)) ∙ h
-
--- behind the last record all lines are written
-pub all_lines : (p : Page) (bs : List ℕ) (s i k : ℕ) (q : Page) → puts q (left bs s i k) ≡ puts p (left bs 0 0 k) → k ≤ i → q ≡ puts p (flat_map clause_line (clauses_read k bs))
-unfolding puts
-all_lines p bs s i k q h l = sym (ap (puts q) (left_none bs s i k l)) ∙ h ∙ ap (puts p) (left_all bs k)

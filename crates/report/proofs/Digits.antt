@@ -1,5 +1,4 @@
 -- Laws of decimal numbers.
-use mathlib.Core.Bool.{cond}
 use mathlib.Core.List.Memᴰ
 use mathlib.Core.List.{List, [], ◌∷◌, ◌++◌, Memᴰ}
 use mathlib.Core.Logic.{⊎_elim}
@@ -7,27 +6,36 @@ use mathlib.Core.Path.{◌≡◌, refl, sym, ap, subst, ◌∙◌}
 use Prim.Native.Nat.{ℕ, zero, suc, ◌+◌, ◌*◌, ◌-◌, ◌/◌, ◌%◌, ◌^◌, ◌≤◌, ◌<◌}
 use native.Mathlib.Nat.{pow-suc}
 use native.Mathlib.Omega.{arith}
-use lib.Dec.{ltb}
 use lib.ListN.{length, get_or, length-append, get_or-append}
 use borrow.Author.Tests.{lt-ltb, le-ltb}
 use Rattle.tables.proofs.Words.{below_or_not}
+use Rattle.std.specs.Fmt.{decimal as std_decimal}
+use Rattle.std.proofs.lemmas.Fmt.{decimal_from_appends, length-decimal-le}
 use Rattle.report.specs.Text.{digits, decimal}
 
--- room for one digit more changes nothing where there is room enough
-pub more_room : (k n : ℕ) → n < 10 ^ suc k → digits (suc k) n ≡ digits k n
-unfolding digits
-more_room zero n h = simp (lt-ltb n 10 (omega arith))
-more_room (suc k) n h = ap (λ (higher : List ℕ). cond (ltb n 10) ((48 + n % 10) ∷ []) (higher ++ ((48 + n % 10) ∷ []))) (more_room k (n / 10) (omega (arith, pow-suc 10 (suc k))))
+-- ---- the digits that std prints
 
--- a number of several digits: those of the number without its last one, then the last one
-pub digits_last : (n : ℕ) → 10 ≤ n → n < 2 ^ 64 → digits 19 n ≡ digits 19 (n / 10) ++ ((48 + n % 10) ∷ [])
-unfolding digits
-digits_last n h k = simp (le-ltb n 10 h) (ap (λ (higher : List ℕ). higher ++ ((48 + n % 10) ∷ [])) (sym (more_room 18 (n / 10) (omega arith))))
+-- the digits, at most so many
+at_most : ℕ → ℕ → List ℕ
+at_most zero n = []
+at_most (suc k) n = digits k n
 
--- a number of one digit
-pub digits_one : (n : ℕ) → n < 10 → digits 19 n ≡ (48 + n % 10) ∷ []
+-- a digit is its own number
+one_digit : (k n : ℕ) → n < 10 → digits k n ≡ (48 + n) ∷ []
 unfolding digits
-digits_one n h = simp (lt-ltb n 10 h)
+one_digit zero n h = ap (λ (d : ℕ). (48 + d) ∷ []) (omega arith)
+one_digit (suc k) n h = rw (lt-ltb n 10 h) (ap (λ (d : ℕ). (48 + d) ∷ []) (omega arith))
+
+-- other numbers end with their last digit
+last_behind : (k n : ℕ) → 10 ≤ n → digits k n ≡ at_most k (n / 10) ++ ((48 + n % 10) ∷ [])
+unfolding at_most digits
+last_behind zero n h = refl
+last_behind (suc k) n h = rw (le-ltb n 10 h)
+
+-- so they are what std prints of a number
+pub as_std : (n : ℕ) → n < 2 ^ 64 → std_decimal n ≡ decimal n
+unfolding at_most
+as_std n h = sym (decimal_from_appends at_most (record { one = one_digit; more = last_behind }) 20 n h (length-decimal-le 20 n (omega arith) (omega arith) h))
 
 -- ---- what a reader makes of the digits
 

@@ -1,6 +1,6 @@
 -- Laws of the page: texts one behind the other are one text, and a text written from the start is shown.
 use mathlib.Core.Bool.{cond}
-use mathlib.Core.List.{List, [], ◌∷◌, ◌++◌, flat_map}
+use mathlib.Core.List.{List, [], ◌∷◌, ◌++◌}
 use mathlib.Core.Logic.{⊎_elim}
 use mathlib.Core.Path.{◌≡◌, refl, sym, ap, ap₂, ◌∙◌}
 use Prim.Native.Nat.{ℕ, suc, ◌+◌, ◌≤◌, ◌<◌}
@@ -9,11 +9,12 @@ use native.Mathlib.Numerals.{add-one}
 use native.Mathlib.Omega.{arith}
 use lib.Dec.{ltb}
 use lib.ListN.{length, set, take, drop, get_or}
-use lib.Seq.{take-length, take-suc, take_all, set_out}
+use lib.Seq.{take-length, take-suc, set_out}
 use borrow.Author.Tests.{lt-ltb, le-ltb}
-use Rattle.tables.specs.Words.{below}
-use Rattle.tables.proofs.Words.{below_or_not, flat_map_below_none, flat_map_below_more}
+use Rattle.tables.proofs.Words.{below_or_not}
 use Rattle.report.specs.Page.{Page, page, put, puts, shown}
+use Rattle.report.specs.Writer.{Writes}
+use Rattle.report.specs.declared.writer.Writer.{Writer}
 
 -- a text behind a text
 pub puts_append : (p : Page) (xs ys : List ℕ) → puts p (xs ++ ys) ≡ puts (puts p xs) ys
@@ -21,22 +22,9 @@ unfolding puts
 puts_append p [] ys = refl
 puts_append p (x ∷ xs) ys = puts_append (put p x) xs ys
 
--- so what two writers leave is what one writer of both texts leaves
-pub and_then : (p : Page) (xs ys : List ℕ) {q r : Page} → q ≡ puts p xs → r ≡ puts q ys → r ≡ puts p (xs ++ ys)
-and_then p xs ys h k = k ∙ ap (λ (w : Page). puts w ys) h ∙ sym (puts_append p xs ys)
-
--- at first nothing is written
-pub nothing_yet : (p : Page) → p ≡ puts p []
-unfolding puts
-nothing_yet p = refl
-
--- in the end all bytes of a text are
-pub bytes_all : (p : Page) (text : List ℕ) (i : ℕ) {q : Page} → q ≡ puts p (take i text) → length text ≤ i → q ≡ puts p text
-bytes_all p text i h l = h ∙ ap (puts p) (take_all i text l)
-
 -- one byte more of a text
-pub byte_more : (p : Page) (text : List ℕ) (i : ℕ) {q r : Page} → i < length text → q ≡ puts p (take i text) → r ≡ puts q (get_or text i 0 ∷ []) → r ≡ puts p (take (i + 1) text)
-byte_more p text i l h k = rw (add-one, take-suc text i 0) (and_then p (take i text) (get_or text i 0 ∷ []) h k)
+pub byte_more : (text : List ℕ) (i : ℕ) → i < length text → take (i + 1) text ≡ take i text ++ (get_or text i 0 ∷ [])
+byte_more text i l = rw (add-one) (take-suc text i 0 l)
 
 -- a byte where there is room
 pub put_inside : (out : List ℕ) (at b : ℕ) → at < length out → page (set out at b) (at + 1) ≡ puts (page out at) (b ∷ [])
@@ -82,23 +70,6 @@ puts_shown (b ∷ bs) (x ∷ xs) =
     first : (n : ℕ) → cond (ltb 0 (suc n)) (0 + 1) 0 ≡ 1
     first n = simp (lt-ltb 0 (suc n) (omega arith))
 
--- before the first of many texts nothing is written
-pub no_texts : (p : Page) (f : ℕ → List ℕ) → p ≡ puts p (flat_map f (below 0))
-unfolding puts
-no_texts p f = sym (ap (puts p) (flat_map_below_none f))
-
--- one text more
-pub one_text_more : (p : Page) (f : ℕ → List ℕ) (i : ℕ) {q r : Page} → q ≡ puts p (flat_map f (below i)) → r ≡ puts q (f i) → r ≡ puts p (flat_map f (below (i + 1)))
-one_text_more p f i h k = rw (flat_map_below_more f i) (and_then p (flat_map f (below i)) (f i) h k)
-
--- behind the last there are all
-pub all_texts : (p : Page) (f : ℕ → List ℕ) (i n : ℕ) {q : Page} → q ≡ puts p (flat_map f (below i)) → i ≤ n → n ≤ i → q ≡ puts p (flat_map f (below n))
-all_texts p f i n h k l = h ∙ ap (λ (m : ℕ). puts p (flat_map f (below m))) (omega arith)
-
--- a text under another name
-pub as_text : (p : Page) {xs ys : List ℕ} {q : Page} → q ≡ puts p xs → ys ≡ xs → q ≡ puts p ys
-as_text p h e = h ∙ ap (puts p) (sym e)
-
 -- a text written from the start of a buffer is shown in it, under another name too
-pub shown_as : (text : List ℕ) (out : List ℕ) {xs : List ℕ} {q : Page} → q ≡ puts (page out 0) xs → text ≡ xs → q ≡ shown text out
-shown_as text out h e = as_text (page out 0) h e ∙ puts_shown text out
+pub shown_as : (text buffer : List ℕ) (before after : Writer) {xs final : List ℕ} → text ≡ xs → final ≡ after.out.now → before.out.now ≡ buffer → before.at ≡ 0 → Writes before after xs → page final after.at ≡ shown text buffer
+shown_as text buffer before after e f b a w = rw (f, e, w.1, b, a) (puts_shown _ buffer)

@@ -3,8 +3,8 @@ use mathlib.Core.List.Memᴰ
 use mathlib.Core.List.{List, [], ◌∷◌, ◌++◌, map, flat_map, Memᴰ}
 use mathlib.Core.Logic.{⊎_elim}
 use mathlib.Core.Path.{◌≡◌, refl, sym, ap₂, subst, ◌∙◌}
-use Prim.Native.Nat.{ℕ, zero, suc, ◌+◌, ◌*◌, ◌/◌, ◌%◌, ◌^◌, ◌≤◌, ◌<◌, min}
-use native.Mathlib.Nat.{pow-suc, mul-suc}
+use Prim.Native.Nat.{ℕ, ◌+◌, ◌*◌, ◌^◌, ◌≤◌, ◌<◌, min}
+use native.Mathlib.Nat.{mul-suc}
 use native.Mathlib.Omega.{arith}
 use lib.Dec.{eqb}
 use lib.ListN.{length, drop, length-append, length-map, length-drop}
@@ -20,8 +20,9 @@ use Rattle.clauses.proofs.Records.{equal_read, different_read, false_read, after
 use Rattle.demands.specs.declared.Answer.{Answer}
 use Rattle.demands.specs.declared.Answer.TheVariants.{Consistent, Inconsistent, Refused}
 use Rattle.report.specs.Page.{page, shown}
-use Rattle.report.specs.Text.{ascii, digits, decimal, class_of, term_line, argument_text, added_line, pair_text, and_pair, premises_text, conclusion_text, clause_line, consistent_text, head_text, end_text, inconsistent_text, refused_text, report_of}
-use Rattle.report.proofs.Digits.{by_size}
+use Rattle.report.specs.Text.{ascii, decimal, class_of, term_line, argument_text, added_line, pair_text, and_pair, premises_text, conclusion_text, clause_line, consistent_text, head_text, end_text, inconsistent_text, refused_text, report_of}
+use Rattle.std.proofs.lemmas.Fmt.{length-decimal-le}
+use Rattle.report.proofs.Digits.{as_std}
 
 -- where a text fits, all of it is shown
 pub shown_whole : (text buffer : List ℕ) → length text ≤ length buffer → shown text buffer ≡ page (text ++ drop (length text) buffer) (length text)
@@ -30,26 +31,17 @@ shown_whole text buffer h = ap₂ page (take_all (length buffer) (text ++ drop (
     whole : length (text ++ drop (length text) buffer) ≤ length buffer
     whole = omega (arith, length-append text (drop (length text) buffer), length-drop (length text) buffer)
 
--- a number below a power of ten has so many digits at most
-digits_few : (j k n : ℕ) → n < 10 ^ suc k → length (digits j n) ≤ suc k
-unfolding digits
-digits_few zero k n h = omega arith
-digits_few (suc j) zero n h = by_size j n (λ (ds : List ℕ). length ds ≤ 1) (λ l. omega arith) (λ l. omega arith)
-digits_few (suc j) (suc k) n h =
-    by_size j n (λ (ds : List ℕ). length ds ≤ suc (suc k)) (λ l. omega arith)
-    (λ l. omega (arith, length-append (digits j (n / 10)) ((48 + n % 10) ∷ []), digits_few j k (n / 10) (omega (arith, pow-suc 10 (suc k)))))
-
 -- three digits are enough for a term's number,
 three : (n : ℕ) → n < 1000 → length (decimal n) ≤ 3
-three n h = digits_few 19 2 n (omega arith)
+three n h = rw (← as_std n (omega arith)) (length-decimal-le 3 n (omega arith) h (omega arith))
 
 -- five for a word,
 five : (n : ℕ) → n < 65536 → length (decimal n) ≤ 5
-five n h = digits_few 19 4 n (omega arith)
+five n h = rw (← as_std n (omega arith)) (length-decimal-le 5 n (omega arith) (omega arith) (omega arith))
 
 -- and twenty for any number
 twenty : (n : ℕ) → n < 2 ^ 64 → length (decimal n) ≤ 20
-twenty n h = digits_few 19 19 n (omega arith)
+twenty n h = rw (← as_std n h) (length-decimal-le 20 n (omega arith) (omega arith) h)
 
 -- a word of two bytes is below 65536
 word_small : (bs : List ℕ) → AllBytes bs → (i : ℕ) → word_at bs i < 65536

@@ -2,3 +2,4 @@
 pub mod Page
 pub mod Text
 pub mod Records
+pub mod Writer

@@ -1,68 +1,70 @@
-// The text of each verdict, from the start of the buffer.
+// The text of each verdict.
 
-ghost use Rattle.std.specs.Prelude.{◌≡◌};
-ghost use Rattle.report.specs.Page.{page as onPage, puts};
+ghost use Rattle.report.specs.Writer.{Writes};
 ghost use Rattle.report.specs.Text.{consistent_text, head_text, end_text, inconsistent_text, refused_text};
 
-use super::{added, classes, fields, horn, page};
+use super::writer::Writer;
+use super::{added, classes, horn};
+
+// A table has at most so many terms.
+const MOST_GIVEN: usize = 256;
+
+// A run has fewer steps than there are terms in use, and a step adds one term at most.
+const MOST_ADDED: usize = MOST_GIVEN - 1;
 
 // Writes a consistent answer: the verdict, then the given terms.
-pub fn consistent(out: &mut [u8], given: usize, partition: &[u8]) -> usize
-    ensures { onPage out.new result ≡ puts (onPage out.old 0) (consistent_text given partition.now) }
+pub fn consistent(out: &mut Writer<'_>, given: usize, partition: &[u8])
+    ensures { Writes out.old out.new (consistent_text given partition.now) }
 {
-    let terms = fields::at_most(given, 256);
-    let next = page::text(out, 0, b"consistent\n");
-    classes::term_lines(out, next, partition, terms)
+    out.text(b"consistent\n");
+    classes::term_lines(out, partition, given.min(MOST_GIVEN));
 }
 
 // Writes the first line of an inconsistent answer: the verdict and the disequality.
-fn head(out: &mut [u8], disequality: usize) -> usize
-    ensures { onPage out.new result ≡ puts (onPage out.old 0) (head_text disequality) }
+fn head(out: &mut Writer<'_>, disequality: usize)
+    ensures { Writes out.old out.new (head_text disequality) }
 {
-    let next = page::text(out, 0, b"inconsistent by ");
-    let end = page::number(out, next, disequality);
-    page::put(out, end, b'\n')
+    out.text(b"inconsistent by ");
+    out.number(disequality);
+    out.put(b'\n');
 }
 
 // Writes the last line of an inconsistent answer: the counts of added terms and clause records.
-fn end(out: &mut [u8], at: usize, terms: usize, records: usize) -> usize
-    ensures { onPage out.new result ≡ puts (onPage out.old at) (end_text terms records) }
+fn end(out: &mut Writer<'_>, terms: usize, records: usize)
+    ensures { Writes out.old out.new (end_text terms records) }
 {
-    let start = page::text(out, at, b"end ");
-    let blank = page::number(out, start, terms);
-    let last = page::put(out, blank, b' ');
-    let line = page::number(out, last, records);
-    page::put(out, line, b'\n')
+    out.text(b"end ");
+    out.number(terms);
+    out.put(b' ');
+    out.number(records);
+    out.put(b'\n');
 }
 
 // Writes an inconsistent answer: the added terms and the clauses stand between its first line and its last.
 pub fn inconsistent(
-    out: &mut [u8],
+    out: &mut Writer<'_>,
     disequality: usize,
     terms: usize,
     records: usize,
     given: usize,
     added: &[u8],
     clauses: &[u8],
-) -> usize
-    ensures { onPage out.new result ≡ puts (onPage out.old 0) (inconsistent_text disequality terms records given added.now clauses.now) }
+)
+    ensures { Writes out.old out.new (inconsistent_text disequality terms records given added.now clauses.now) }
 {
-    let behind = fields::at_most(given, 256);
-    let count = fields::at_most(terms, 255);
-    let whole = fields::at_most(records, clauses.len() / 8);
-    let first = head(out, disequality);
-    let next = added::added_lines(out, first, behind, added, count);
-    let last = horn::clause_lines(out, next, clauses, whole);
-    end(out, last, terms, records)
+    head(out, disequality);
+    added::added_lines(out, given.min(MOST_GIVEN), added, terms.min(MOST_ADDED));
+    horn::clause_lines(out, clauses, records.min(clauses.len() / horn::RECORD));
+    end(out, terms, records);
 }
 
 // Writes a refusal: its number and its place.
-pub fn refused(out: &mut [u8], number: usize, place: usize) -> usize
-    ensures { onPage out.new result ≡ puts (onPage out.old 0) (refused_text number place) }
+pub fn refused(out: &mut Writer<'_>, number: usize, place: usize)
+    ensures { Writes out.old out.new (refused_text number place) }
 {
-    let next = page::text(out, 0, b"refused ");
-    let named = page::number(out, next, number);
-    let last = page::text(out, named, b" at ");
-    let line = page::number(out, last, place);
-    page::put(out, line, b'\n')
+    out.text(b"refused ");
+    out.number(number);
+    out.text(b" at ");
+    out.number(place);
+    out.put(b'\n');
 }
