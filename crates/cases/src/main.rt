@@ -3,12 +3,78 @@
 
 #![tactic(auto)]
 
-ghost use Rattle.std.specs.Prelude.{◌<◌, ◌≤◌, length, true, ◌≡◌};
+ghost use Rattle.std.specs.Prelude.{◌<◌, ◌≡◌, IfSome, length};
 
 use demands::Answer;
-use files::Got;
+use std::fmt::{Display, Write};
 use std::fs::File;
 use std::io::Stdout;
+use std::{array, fmt};
+
+// The bytes of a case's name.
+const NAME: usize = 22;
+
+// A case is a head and then two tables. The head is the name and five numbers of two bytes: how long the tables are, and how long the buffers.
+const HEAD: usize = NAME + 5 * 2;
+
+// The bytes of a term.
+const TERM: usize = 16;
+
+// The most bytes of terms that a case has: those of one term more than a call takes, so that the engine sees a table that is too long.
+const TERMS: usize = 257 * TERM;
+
+// The most bytes of literals, likewise: a call takes 1,024 of 8 bytes.
+const LITERALS: usize = 1025 * 8;
+
+// The most that a case lends for the partition, as tests/make_cases.py has it: a class number of 2 bytes for each term.
+const PARTITION: usize = 256 * 2;
+
+// The same for added terms: a call adds 255 at most.
+const ADDED: usize = 255 * TERM;
+
+// The same for clauses: 6,144 records of 8 bytes.
+const CLAUSES: usize = 6144 * 8;
+
+// How many cases are run at most: the loop over them has to end also in a run whose data never end.
+const CASES: usize = 65536;
+
+// A buffer of a call.
+#[derive(Clone, Copy)]
+enum Lent {
+    Partition,
+    Added,
+    Clauses,
+}
+
+impl Lent {
+    fn name(self) -> &'static str {
+        match self {
+            Lent::Partition => "partition",
+            Lent::Added => "added",
+            Lent::Clauses => "clauses",
+        }
+    }
+
+    // The bytes of one of its records.
+    fn each(self) -> usize
+        ensures { 0 < result }
+    {
+        match self {
+            Lent::Partition => 2,
+            Lent::Added => TERM,
+            Lent::Clauses => 8,
+        }
+    }
+
+    // What it is filled with before the call.
+    fn pattern(self) -> u8 {
+        match self {
+            Lent::Partition => 0xaa,
+            Lent::Added => 0xbb,
+            Lent::Clauses => 0xcc,
+        }
+    }
+}
 
 // Standard output, and whether all that was printed there is written whole.
 #[derive(Drop)]
@@ -17,71 +83,53 @@ struct Output {
     whole: bool,
 }
 
-// A byte as a number.
-fn wide(b: u8) -> usize
-    ensures { result < 256 }
-{
-    b as usize
-}
-
-// Prints a text. The flag is cleared where that is not written whole, and main then says so.
-fn print(out: &mut Output, text: &[u8]) {
-    if files::put(&mut out.to, text) < text.len() {
-        out.whole = false;
-    }
-}
-
-// Prints a byte as two hex digits.
-fn print_hex(out: &mut Output, byte: u8) {
-    let mut text = [0u8; 16];
-    let count = io::hex(wide(byte) as u64, 2, &mut text);
-    print(out, &text[..count]);
-}
-
-// Tells a buffer in which a byte changed that should have stayed.
-fn changed(out: &mut Output, name: &[u8]) {
-    print(out, b" changed ");
-    print(out, name);
-}
-
-// Prints the bytes of as many records as a count asks for, in hex; then tells the buffer's name if a byte behind them is no longer the pattern.
-// A byte's record is found by a division, so that no product needs a bound.
-fn bytes_of(out: &mut Output, name: &[u8], bytes: &[u8], count: usize, each: usize, pattern: u8)
-    requires { 0 < each }
-{
-    let mut i = 0;
-    while i < bytes.len() {
-        if i / each < count {
-            print_hex(out, bytes[i]);
-        } else if bytes[i] != pattern {
-            changed(out, name);
-            return;
+impl Output {
+    // Writes bytes. The flag is cleared where they are not written whole, and main then says so; what follows is tried all the same.
+    fn put(&mut self, bytes: &[u8]) {
+        if files::put(&mut self.to, bytes) < bytes.len() {
+            self.whole = false;
         }
-        i += 1;
+    }
+
+    // Prints a text.
+    fn print<D: Display + Drop>(&mut self, text: D) {
+        let _ = write!(self, "{text}");
+    }
+
+    // Prints the bytes of as many records as a count asks for, in hex; then tells the buffer's name if a byte behind them is no longer the pattern.
+    // A byte's record is found by a division, so that no product needs a bound.
+    fn bytes_of(&mut self, lent: Lent, bytes: &[u8], count: usize) {
+        for (i, &byte) in bytes.iter().enumerate() {
+            if i / lent.each() < count {
+                self.print(format_args!("{byte:02x}"));
+            } else if byte != lent.pattern() {
+                self.print(" changed ");
+                self.print(lent.name());
+                return;
+            }
+        }
+    }
+
+    // A buffer that the answer fills: a dash stands for no records.
+    fn written(&mut self, lent: Lent, bytes: &[u8], count: usize) {
+        if count == 0 {
+            self.print("-");
+        }
+        self.bytes_of(lent, bytes, count);
+    }
+
+    // A buffer that should have stayed.
+    fn kept(&mut self, lent: Lent, bytes: &[u8]) {
+        self.bytes_of(lent, bytes, 0);
     }
 }
 
-// A buffer that the answer fills: a dash stands for no records.
-fn written(out: &mut Output, name: &[u8], bytes: &[u8], count: usize, each: usize, pattern: u8)
-    requires { 0 < each }
-{
-    if count == 0 {
-        print(out, b"-");
+impl fmt::Write for Output {
+    // No error: the flag says where a text is not written whole.
+    fn write_str(&mut self, text: &str) -> fmt::Result {
+        self.put(text.as_bytes());
+        Ok(())
     }
-    bytes_of(out, name, bytes, count, each, pattern);
-}
-
-// A buffer that should have stayed.
-fn kept(out: &mut Output, name: &[u8], bytes: &[u8], pattern: u8) {
-    bytes_of(out, name, bytes, 0, 1, pattern);
-}
-
-// Prints a number behind a text.
-fn number(out: &mut Output, text: &[u8], n: usize) {
-    print(out, text);
-    let mut digits = [0u8; 20];
-    let count = io::decimal(n as u64, &mut digits);
-    print(out, &digits[..count]);
 }
 
 // Prints the answer and what was written.
@@ -95,133 +143,101 @@ fn show(
 ) {
     match answer {
         Answer::Consistent => {
-            print(out, b" consistent partition=");
-            written(out, b"partition", partition, terms, 2, 170);
-            kept(out, b"added", added, 187);
-            kept(out, b"clauses", clauses, 204);
+            out.print(" consistent partition=");
+            out.written(Lent::Partition, partition, terms);
+            out.kept(Lent::Added, added);
+            out.kept(Lent::Clauses, clauses);
         }
         Answer::Inconsistent {
             disequality,
             added: count,
             records,
         } => {
-            number(out, b" inconsistent by ", disequality);
-            print(out, b" added=");
-            written(out, b"added", added, count, 16, 187);
-            print(out, b" clauses=");
-            written(out, b"clauses", clauses, records, 8, 204);
-            kept(out, b"partition", partition, 170);
+            out.print(format_args!(" inconsistent by {disequality} added="));
+            out.written(Lent::Added, added, count);
+            out.print(" clauses=");
+            out.written(Lent::Clauses, clauses, records);
+            out.kept(Lent::Partition, partition);
         }
-        Answer::Refused { number: row, place } => {
-            number(out, b" refused ", row);
-            number(out, b" at ", place);
-            kept(out, b"partition", partition, 170);
-            kept(out, b"added", added, 187);
-            kept(out, b"clauses", clauses, 204);
+        Answer::Refused { number, place } => {
+            out.print(format_args!(" refused {number} at {place}"));
+            out.kept(Lent::Partition, partition);
+            out.kept(Lent::Added, added);
+            out.kept(Lent::Clauses, clauses);
         }
     }
-    print(out, b"\n");
+    out.print("\n");
 }
 
-// The call, and what came back.
-fn call(
-    out: &mut Output,
-    terms: &[u8],
-    literals: &[u8],
-    partition: &mut [u8],
-    added: &mut [u8],
-    clauses: &mut [u8],
-) {
+// One call, with as much of each buffer as the case lends, and what came back.
+fn call(out: &mut Output, terms: &[u8], literals: &[u8], p: usize, a: usize, c: usize) {
+    let mut partition = [Lent::Partition.pattern(); PARTITION];
+    let mut added = [Lent::Added.pattern(); ADDED];
+    let mut clauses = [Lent::Clauses.pattern(); CLAUSES];
+    if p > PARTITION || a > ADDED || c > CLAUSES {
+        return;
+    }
+    let partition = &mut partition[..p];
+    let added = &mut added[..a];
+    let clauses = &mut clauses[..c];
     let answer = engine::split(terms, literals, partition, added, clauses);
-    show(out, answer, terms.len() / 16, partition, added, clauses);
+    show(out, answer, terms.len() / TERM, partition, added, clauses);
 }
 
-// One call, with as much of each buffer as the case lends.
-fn lend(out: &mut Output, terms: &[u8], literals: &[u8], p: usize, a: usize, c: usize) {
-    let mut partition = [170u8; 512];
-    let mut added = [187u8; 4080];
-    let mut clauses = [204u8; 49152];
-    if p <= 512 {
-        if a <= 4080 {
-            if c <= 49152 {
-                call(
-                    out,
-                    terms,
-                    literals,
-                    &mut partition[0..p],
-                    &mut added[0..a],
-                    &mut clauses[0..c],
-                );
-            }
-        }
-    }
-}
-
-// Whether a table's bytes, as many as its case says, fit it and could be read.
-fn load(file: &mut File, table: &mut [u8], count: usize) -> bool
-    ensures { result ≡ true → count ≤ length table.new }
+// A table's bytes, as many as its case says; nothing where they do not fit it or cannot be read.
+fn load<'a>(file: &mut File, table: &'a mut [u8], count: usize) -> Option<&'a [u8]>
+    ensures { IfSome result (λ bytes. length bytes.now ≡ count) }
 {
-    if table.len() < count {
-        return false;
+    let bytes = table.get_mut(..count)?;
+    if files::fill(file, bytes)? < count {
+        return None;
     }
-    let Got::Bytes(n) = files::fill(file, &mut table[0..count]) else {
-        return false;
-    };
-    n == count
+    Some(bytes)
 }
 
-// The number of two bytes at a place of a record's head.
-fn field(head: &[u8; 32], at: usize) -> usize
-    requires { at < 31 }
-{
-    wide(head[at]) + 256 * wide(head[at + 1])
+// The numbers of a case's head.
+fn numbers(head: &[u8; HEAD]) -> [usize; 5] {
+    array::from_fn(|k| {
+        let at = NAME + 2 * k;
+        usize::from(u16::from_le_bytes([head[at], head[at + 1]]))
+    })
 }
 
 // What the data hold at a place.
-#[derive(Drop)]
+#[derive(Clone, Copy, Debug, PartialEq, Eq)]
 enum Data {
     Case,
     End,
-    // Less than a case, or bytes that could not be read.
-    Unread,
 }
 
-// One case: its tables are read behind its head, and the call is run.
-fn run_case(out: &mut Output, file: &mut File) -> Data {
-    let mut head = [0u8; 32];
-    let Got::Bytes(count) = files::fill(file, &mut head) else {
-        return Data::Unread;
-    };
+// One case: its tables are read behind its head, and the call is run. Nothing stands for less than a case, or bytes that could not be read.
+fn run_case(out: &mut Output, file: &mut File) -> Option<Data> {
+    let mut head = [0u8; HEAD];
+    let count = files::fill(file, &mut head)?;
     if count == 0 {
-        return Data::End;
+        return Some(Data::End);
     }
-    let n = field(&head, 22);
-    let m = field(&head, 24);
-    let mut terms = [0u8; 4112];
-    let mut literals = [0u8; 8200];
-    if count < 32 || !load(file, &mut terms, n) || !load(file, &mut literals, m) {
-        return Data::Unread;
+    if count < HEAD {
+        return None;
     }
-    print(out, &head[..22]);
-    lend(
-        out,
-        &terms[..n],
-        &literals[..m],
-        field(&head, 26),
-        field(&head, 28),
-        field(&head, 30),
-    );
-    Data::Case
+    let name = &head[..NAME];
+    let [n, m, p, a, c] = numbers(&head);
+    let mut terms = [0u8; TERMS];
+    let mut literals = [0u8; LITERALS];
+    let terms = load(file, &mut terms, n)?;
+    let literals = load(file, &mut literals, m)?;
+    out.put(name);
+    call(out, terms, literals, p, a, c);
+    Some(Data::Case)
 }
 
-// Case after case, and whether the data's end was reached. The count ends the loop in every run, also in one whose data never end.
+// Case after case, and whether the data's end was reached.
 fn run_cases(out: &mut Output, file: &mut File) -> bool {
-    let mut left: usize = 65536;
-    while 0 < left {
+    for _ in 0..CASES {
         match run_case(out, file) {
-            Data::Case => left -= 1,
-            Data::End => return true,
-            Data::Unread => return false,
+            Some(Data::Case) => {}
+            Some(Data::End) => return true,
+            None => return false,
         }
     }
     false
@@ -233,12 +249,12 @@ fn main(rt: HostRuntime) {
         whole: true,
     };
     match File::open(&rt, "cases.tab") {
-        Err(_) => print(&mut out, b"no file cases.tab\n"),
+        Err(_) => out.print("no file cases.tab\n"),
         Ok(mut file) => {
             if run_cases(&mut out, &mut file) {
-                print(&mut out, b"end\n");
+                out.print("end\n");
             } else {
-                print(&mut out, b"cases.tab was not read to its end\n");
+                out.print("cases.tab was not read to its end\n");
             }
         }
     }

@@ -1,4 +1,3 @@
--- Laws of what follows a call and of what was read, which the proofs of the code share.
+-- Laws of what follows a call, which the proofs of the code share.
 pub mod Following
-pub mod Reading
 pub mod Moving

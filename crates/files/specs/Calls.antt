@@ -1,28 +1,20 @@
--- What follows a call of read or write, by its answer and by errno, where so many interrupted calls are still borne and so many bytes went through
--- before.
-use Rattle.std.specs.Prelude.{Bool, true, false, ℕ, zero, suc, ℤ, pos, negsuc, eqb, Result, Ok, Err}
-use Rattle.files.specs.declared.calls.Got.TheVariants.{Bytes, Nothing}
+-- What follows a call of read or write, where so many interrupted calls are still borne and so many bytes went through before.
+use Rattle.std.specs.Prelude.{ℕ, zero, suc, Some, None, Result, Ok, Err}
+use Rattle.std.specs.IoError.{error_kind}
+use Rattle.std.specs.declared.io.Error.{Error}
+use Rattle.std.specs.declared.io.ErrorKind.{ErrorKind}
+use Rattle.std.specs.declared.io.ErrorKind.TheVariants.{Interrupted}
 use Rattle.files.specs.declared.calls.Next.{Next}
 use Rattle.files.specs.declared.calls.Next.TheVariants.{On, Again, Stop}
 
--- errno 4 is EINTR: a signal came before any byte went through
-abbrev pub interrupted : ℤ → Bool
-interrupted (pos error) = eqb error 4
-interrupted (negsuc k) = false
+-- a call that failed is made again only where a signal came before any byte went through, and only so often; else nothing counts as read
+abbrev pub failure : ErrorKind → ℕ → Next
+failure Interrupted (suc left) = Again
+failure Interrupted zero = Stop None
+failure kind left = Stop None
 
--- a call that failed is made again only where it was interrupted, and only so often; else nothing counts as read
-abbrev pub failure : Bool → ℕ → Next
-failure true (suc left) = Again
-failure true zero = Stop Nothing
-failure false left = Stop Nothing
-
--- an answer above 0: so many bytes went through; 0: the end; below: a failure
-unfoldable pub next_of : ℤ → ℤ → ℕ → ℕ → Next
-next_of (pos (suc n)) error left done = On (suc n)
-next_of (pos zero) error left done = Stop (Bytes done)
-next_of (negsuc k) error left done = failure (interrupted error) left
-
--- the answer of the system's call: the count, and -1 for a failure
-abbrev pub answer_of : {E : Type 0} → Result ℕ E → ℤ
-answer_of (Ok n) = pos n
-answer_of (Err e) = negsuc 0
+-- an answer above 0: so many bytes went through; 0: the end; an error: a failure
+unfoldable pub next_of : Result ℕ Error → ℕ → ℕ → Next
+next_of (Ok (suc n)) left done = On (suc n)
+next_of (Ok zero) left done = Stop (Some done)
+next_of (Err e) left done = failure (error_kind e) left

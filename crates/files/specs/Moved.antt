@@ -1,10 +1,7 @@
 -- What reading and writing do to the bytes that a reader has left and a writer holds, where those are known.
-use Rattle.std.specs.Prelude.{ℕ, ◌<◌, List, length, take, Option}
+use Rattle.std.specs.Prelude.{ℕ, ◌<◌, List, length, take, Option, IfSome}
 use Rattle.std.specs.Io.KnownBytes.{Consumes, IsAtEnd}
-use Rattle.files.specs.declared.calls.Got.{Got}
-use Rattle.files.specs.declared.calls.Got.TheVariants.{Bytes, Nothing}
 
 -- the bytes that count as read are the reader's next ones, in their order, and fewer than the buffer holds only where none is left
-abbrev pub CameFrom : Option (List ℕ) → Option (List ℕ) → Got → List ℕ → Type 0
-CameFrom old new (Bytes n) buffer = Consumes old new (take n buffer) × (n < length buffer → IsAtEnd new)
-CameFrom old new Nothing buffer = Unit {0}
+abbrev pub CameFrom : Option (List ℕ) → Option (List ℕ) → Option ℕ → List ℕ → Type 0
+CameFrom old new came buffer = IfSome came (λ n. Consumes old new (take n buffer) × (n < length buffer → IsAtEnd new))

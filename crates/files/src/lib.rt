@@ -10,24 +10,24 @@ ghost use Rattle.std.specs.Io.KnownBytes.{Appends};
 ghost use Rattle.files.specs.Moved.{CameFrom};
 ghost use Rattle.files.specs.Within.{Within};
 
-pub use calls::Got;
 use calls::Next;
 use std::fs::File;
 use std::io::{Read, Write};
 use std::rt::Files;
 use std::str;
 
-// Reads until the buffer is full or the input ends. Where a read fails nothing counts as read, also not the bytes that came before.
-#[tactic(auto, using(crate::proofs::Following::borne, crate::proofs::Following::stopped))]
-pub fn fill<R: Read>(from: &mut R, buffer: &mut [u8]) -> Got
+// Reads until the buffer is full or the input ends. Where a read fails nothing counts as read, also not the bytes that came before. The loop is by
+// hand, since std's read_exact says nothing of an input that ends early, its read_to_end wants a Vec, and a call moves as many bytes as it likes.
+#[tactic(auto, using(crate::proofs::Following::borne, crate::proofs::Following::some_read, crate::proofs::Following::stopped))]
+pub fn fill<R: Read>(from: &mut R, buffer: &mut [u8]) -> Option<usize>
     ensures within { Within (length buffer.new) result }
     ensures bytes { CameFrom (R.remaining from.old) (R.remaining from.new) result buffer.new }
 {
     let mut done = 0;
     let mut left = calls::BORNE;
     while done < buffer.len() {
-        let (got, error) = calls::answered(from.read(&mut buffer[done..]));
-        match calls::after(got, error, left, done) {
+        let called = from.read(&mut buffer[done..]);
+        match calls::after(called, left, done) {
             Next::On(n) => {
                 done += n;
                 left = calls::BORNE;
@@ -36,16 +36,14 @@ pub fn fill<R: Read>(from: &mut R, buffer: &mut [u8]) -> Got
             Next::Stop(came) => return came,
         }
     }
-    Got::Bytes(done)
+    Some(done)
 }
 
 // Reads as much of a file as the buffer holds. One that cannot be opened and one that cannot be read are alike: a folder can be opened.
-pub fn load<F: Files>(files: &F, name: &[u8], buffer: &mut [u8]) -> Got
+pub fn load<F: Files>(files: &F, name: &[u8], buffer: &mut [u8]) -> Option<usize>
     ensures { Within (length buffer.new) result }
 {
-    let Some(mut file) = open(files, name) else {
-        return Got::Nothing;
-    };
+    let mut file = open(files, name)?;
     fill(&mut file, buffer)
 }
 
@@ -55,8 +53,10 @@ fn open<F: Files>(files: &F, name: &[u8]) -> Option<F::File> {
     File::open(files, name).ok()
 }
 
-// Writes all bytes, or as many as can be written, and returns how many these were.
-#[tactic(auto, using(crate::proofs::Following::borne))]
+// Writes all bytes, or as many as can be written, and returns how many these were. The loop is by hand, since std's write_all does not say how many
+// went before a write that fails. It is that of fill but for the call; with a closure for the call one loop could serve both, but what fill and put
+// say of the bytes it would have to say of each call that it made, in a contract longer than itself.
+#[tactic(auto, using(crate::proofs::Following::borne, crate::proofs::Following::some_written))]
 pub fn put<W: Write>(to: &mut W, bytes: &[u8]) -> usize
     ensures within { result ≤ length bytes.now }
     ensures written { Appends (W.contents to.old) (W.contents to.new) (take result bytes.now) }
@@ -64,8 +64,8 @@ pub fn put<W: Write>(to: &mut W, bytes: &[u8]) -> usize
     let mut done = 0;
     let mut left = calls::BORNE;
     while done < bytes.len() {
-        let (got, error) = calls::answered(to.write(&bytes[done..]));
-        match calls::after(got, error, left, done) {
+        let called = to.write(&bytes[done..]);
+        match calls::after(called, left, done) {
             Next::On(n) => {
                 done += n;
                 left = calls::BORNE;
@@ -79,7 +79,7 @@ pub fn put<W: Write>(to: &mut W, bytes: &[u8]) -> usize
 
 #[cfg(test)]
 mod tests {
-    use super::{Got, fill, put};
+    use super::{fill, put};
     use std::io;
     use std::io::{ErrorKind, Read, Write};
 
@@ -153,10 +153,7 @@ mod tests {
         ];
         for (bytes, interruptions, fails, want) in runs {
             let mut buffer = [0u8; 8];
-            let came = match fill(&mut Fake::new(bytes, interruptions, fails), &mut buffer) {
-                Got::Bytes(n) => Some(n),
-                Got::Nothing => None,
-            };
+            let came = fill(&mut Fake::new(bytes, interruptions, fails), &mut buffer);
             assert!(rt;
                 came == want,
                 "{bytes} bytes, {interruptions} interruptions"
