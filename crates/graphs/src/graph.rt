@@ -3,14 +3,14 @@
 ghost use Rattle.std.specs.Prelude.{◌≡◌, [], ◌∷◌, ◌+◌, ◌<◌, set, replicate};
 ghost use Rattle.graphs.specs.Layout.{no_edge, edges_of};
 
-use closure::{Edge, EdgeKind};
+use closure::{EDGES, Edge, EdgeKind};
 use tables::Side;
 
 // An array of one size with a count beside it, and no vector: memory is fixed, the graph goes by value as document 01 names the form, and `with_edge`
 // promises the array too.
 #[derive(Clone, Copy)]
 pub struct Graph {
-    pub edges: [Edge; 510],
+    pub edges: [Edge; EDGES],
     pub count: usize,
 }
 
@@ -26,7 +26,7 @@ impl Graph {
             kind: EdgeKind::Basic,
         };
         Graph {
-            edges: [none; 510],
+            edges: [none; EDGES],
             count: 0,
         }
     }

@@ -3,17 +3,18 @@
 ghost use Rattle.std.specs.Prelude.{cond, [], map, ◌≡◌, eqb};
 ghost use Rattle.graphs.specs.Layout.{labels_of};
 
+use closure::VERTICES;
 use std::array;
 
 // Without edges each term has its own.
-pub fn own_labels() -> [u16; 511]
+pub fn own_labels() -> [u16; VERTICES]
     ensures { result ≡ labels_of [] }
 {
     array::from_fn(|v| v as u16)
 }
 
-// So the labels change with an edge, which gives those at one end the number of the other: every place is written, with no branch in the loop.
-pub fn relabel(labels: &mut [u16; 511], from: u16, to: u16)
+// An edge gives those at one end the number of the other: every place is written, with no branch in the loop.
+pub fn relabel(labels: &mut [u16; VERTICES], from: u16, to: u16)
     ensures { labels.new ≡ map (λ x. cond (eqb x from) to x) labels.old }
 {
     for label in labels.iter_mut() {

@@ -5,13 +5,14 @@ ghost use Rattle.closure.specs.Graph.{Graph};
 ghost use Rattle.graphs.specs.Trails.{Joining, TrailOf};
 
 use super::rooting::Rooting;
+use closure::VERTICES;
 
 // The vertices that the path stands on, and the edges between them. Memory is fixed, so the arrays have a count beside them; they are filled from both
 // ends, which no vector is.
 #[derive(Clone, Copy)]
 pub struct Trail {
-    pub stops: [u16; 511],
-    pub edges: [u16; 511],
+    pub stops: [u16; VERTICES],
+    pub edges: [u16; VERTICES],
     pub hops: usize,
 }
 
@@ -25,7 +26,7 @@ impl Rooting {
         let mut a = u;
         let mut b = v;
         let mut up = 0;
-        let mut top = 511;
+        let mut top = VERTICES;
         // Either side may go on, so no range counts the turns.
         while a != b {
             if self.rank[b as usize] <= self.rank[a as usize] {
@@ -43,7 +44,7 @@ impl Rooting {
         trail.stops[up] = a;
         trail.stops.copy_within(top.., up + 1);
         trail.edges.copy_within(top.., up);
-        trail.hops = up + (511 - top);
+        trail.hops = up + (VERTICES - top);
     }
 
     // The same, handed out as a value.
@@ -52,8 +53,8 @@ impl Rooting {
         ensures { (G : Graph) → Joining self.now u v G → TrailOf G u v result }
     {
         let mut trail = Trail {
-            stops: [0; 511],
-            edges: [0; 511],
+            stops: [0; VERTICES],
+            edges: [0; VERTICES],
             hops: 0,
         };
         self.lay_path(u, v, &mut trail);

@@ -7,29 +7,30 @@ ghost use Rattle.graphs.specs.Layout.{edges_of, labels_of};
 ghost use Rattle.graphs.specs.Rooting.{RootedBy, positives, grown, Growing, Closed};
 
 use super::graph::Graph;
+use closure::VERTICES;
 
 // rank is 0 where a vertex is not reached yet, 1 at a root, and one more than the neighbour's toward the root.
 // Three arrays and not one of three parts: `RootedBy` says of each what it holds, and a step up reads one part alone.
 #[derive(Clone, Copy)]
 pub struct Rooting {
-    pub toward: [u16; 511],
-    pub by: [u16; 511],
-    pub rank: [u16; 511],
+    pub toward: [u16; VERTICES],
+    pub by: [u16; VERTICES],
+    pub rank: [u16; VERTICES],
 }
 
 // The roots alone: the terms that are their own labels.
-fn roots(labels: &[u16; 511]) -> Rooting
+fn roots(labels: &[u16; VERTICES]) -> Rooting
     ensures { (G : Edges) → labels.now ≡ labels_of G → Growing G result }
 {
-    let mut rank = [0; 511];
+    let mut rank = [0; VERTICES];
     for v in 0..511u16 {
         if labels[v as usize] == v {
             rank[v as usize] = 1;
         }
     }
     Rooting {
-        toward: [0; 511],
-        by: [0; 511],
+        toward: [0; VERTICES],
+        by: [0; VERTICES],
         rank,
     }
 }
@@ -71,7 +72,7 @@ impl Rooting {
 }
 
 // Passes until one reaches nothing more.
-pub fn rooted(graph: &Graph, labels: &[u16; 511]) -> Rooting
+pub fn rooted(graph: &Graph, labels: &[u16; VERTICES]) -> Rooting
     requires { (graph.now.count ≤ 510) × EndsBelow 511 (edges_of graph.now) × (labels.now ≡ labels_of (edges_of graph.now)) }
     ensures { RootedBy (edges_of graph.now) result }
 {

@@ -7,16 +7,16 @@ ghost use Rattle.graphs.specs.Layout.{newest_first};
 ghost use Rattle.marking.specs.Marks.{is_b};
 ghost use Rattle.marking.specs.Drawn.{is_derived, PartsAt};
 
-use closure::{Edge, EdgeKind};
+use closure::{EDGES, Edge, EdgeKind};
 use tables::Side;
 
 // What the edges hold, a column for each part, under the edge's number: `columns_of` promises each part, and the layer runs along the colours alone.
 #[derive(Clone, Copy)]
 pub struct Columns {
-    pub lefts: [u16; 510],
-    pub rights: [u16; 510],
-    pub inb: [bool; 510],
-    pub derived: [bool; 510],
+    pub lefts: [u16; EDGES],
+    pub rights: [u16; EDGES],
+    pub inb: [bool; EDGES],
+    pub derived: [bool; EDGES],
 }
 
 impl Columns {
@@ -25,10 +25,10 @@ impl Columns {
         ensures { (result.lefts ≡ replicate 510 0) × (result.rights ≡ replicate 510 0) × (result.inb ≡ replicate 510 false) × (result.derived ≡ replicate 510 false) }
     {
         Columns {
-            lefts: [0; 510],
-            rights: [0; 510],
-            inb: [false; 510],
-            derived: [false; 510],
+            lefts: [0; EDGES],
+            rights: [0; EDGES],
+            inb: [false; EDGES],
+            derived: [false; EDGES],
         }
     }
 

@@ -1,17 +1,19 @@
 // Marks along a stretch of a path: which factors' ends are read, and which edges' parent paths.
+
 ghost use Rattle.std.specs.Prelude.{◌≡◌, ◌≤◌, ◌<◌, length};
 ghost use Rattle.clauses.specs.Clauses.{between};
 ghost use Rattle.marking.specs.Marks.{no_marks, place_of, RowsOf, PairAdded, StretchEnd, Within, FactorsAdded, EdgesAdded, Wanted, OuterWanted};
 
+use closure::{EDGES, VERTICES};
 use graphs::paths::Trail;
 
 // Beside a square of marked pairs: its rows that have a pair, so that those without one are passed over later; the edges whose parent paths are read
 // whole; and those whose parent paths are read without their own factors.
 #[derive(Clone, Copy)]
 pub struct Marks {
-    pub rows: [bool; 511],
-    pub inside: [bool; 510],
-    pub under: [bool; 510],
+    pub rows: [bool; VERTICES],
+    pub inside: [bool; EDGES],
+    pub under: [bool; EDGES],
 }
 
 impl Marks {
@@ -20,15 +22,15 @@ impl Marks {
         ensures { result ≡ no_marks }
     {
         Marks {
-            rows: [false; 511],
-            inside: [false; 510],
-            under: [false; 510],
+            rows: [false; VERTICES],
+            inside: [false; EDGES],
+            under: [false; EDGES],
         }
     }
 }
 
-// How long a row of the square is.
-const ROW: usize = 511;
+// How long a row of the square is: a mark for each vertex.
+pub const ROW: usize = VERTICES;
 
 // The place of a pair of vertices in the square, in the lower one's row.
 fn place(u: u16, v: u16) -> usize
@@ -39,7 +41,7 @@ fn place(u: u16, v: u16) -> usize
 }
 
 // Marks a pair, and its row.
-fn mark_pair(u: u16, v: u16, pairs: &mut [bool], rows: &mut [bool; 511])
+fn mark_pair(u: u16, v: u16, pairs: &mut [bool], rows: &mut [bool; VERTICES])
     requires { (u < 511) × (v < 511) × (place_of (between u v) < length pairs.old) }
     ensures { PairAdded (between u v) pairs.old rows.old pairs.new rows.new }
 {
@@ -48,7 +50,7 @@ fn mark_pair(u: u16, v: u16, pairs: &mut [bool], rows: &mut [bool; 511])
 }
 
 // Where the stretch of one colour ends that begins at place lo of a trail.
-fn stretch_end(inb: &[bool; 510], trail: &Trail, lo: usize, hi: usize) -> usize
+fn stretch_end(inb: &[bool; EDGES], trail: &Trail, lo: usize, hi: usize) -> usize
     requires within { Within trail.now lo hi }
     requires lo_lt_hi { lo < hi }
     ensures { StretchEnd inb.now trail.now lo hi result }
@@ -64,13 +66,13 @@ fn stretch_end(inb: &[bool; 510], trail: &Trail, lo: usize, hi: usize) -> usize
 
 // Marks the ends of the factors of a stretch that have the colour b. The place goes on by a whole factor, so no range has it.
 fn want_factors(
-    inb: &[bool; 510],
+    inb: &[bool; EDGES],
     trail: &Trail,
     lo: usize,
     hi: usize,
     b: bool,
     pairs: &mut [bool],
-    rows: &mut [bool; 511],
+    rows: &mut [bool; VERTICES],
 )
     requires within { Within trail.now lo hi }
     requires rows_of { RowsOf (length pairs.old) trail.now hi }
@@ -89,12 +91,12 @@ fn want_factors(
 
 // Marks the edges of a stretch that have the colour b.
 fn want_edges(
-    inb: &[bool; 510],
+    inb: &[bool; EDGES],
     trail: &Trail,
     lo: usize,
     hi: usize,
     b: bool,
-    marks: &mut [bool; 510],
+    marks: &mut [bool; EDGES],
 )
     requires { Within trail.now lo hi }
     ensures { EdgesAdded inb.now trail.now lo hi b marks.old marks.new }
@@ -110,7 +112,7 @@ fn want_edges(
 // What reading a stretch asks for: the ends of its factors of colour b, unless they do not count; the parent paths of its other edges; and, where
 // clauses are read, b being A, those of its A-edges too. A colour is a bool here, b for B, as the column of the edges' colours has it.
 pub fn want_along(
-    inb: &[bool; 510],
+    inb: &[bool; EDGES],
     trail: &Trail,
     lo: usize,
     hi: usize,
@@ -134,7 +136,7 @@ pub fn want_along(
 
 // The stretches before and after the middle one of a path, their own factors where those of B are read.
 pub fn want_outer(
-    inb: &[bool; 510],
+    inb: &[bool; EDGES],
     trail: &Trail,
     lo: usize,
     hi: usize,

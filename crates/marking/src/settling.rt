@@ -1,9 +1,11 @@
 // The parent paths of marked edges, read from the newest edge to the oldest: parent paths have older edges only, so one pass is enough.
+
 ghost use Rattle.std.specs.Prelude.{◌<◌, length};
 ghost use Rattle.marking.specs.Drawn.{DrawnSome, EdgeSettled, Settled};
 
 use super::drawing::Drawing;
 use super::marks::{Marks, want_along};
+use closure::VERTICES;
 use graphs::paths::Trail;
 
 // What the parent paths of one edge ask for. The paths are laid in the same trail, one after the other.
@@ -20,8 +22,8 @@ fn settle_edge(
     ensures { EdgeSettled drawn.now i b whole pairs.old marks.old pairs.new marks.new }
 {
     let trail = &mut Trail {
-        stops: [0; 511],
-        edges: [0; 511],
+        stops: [0; VERTICES],
+        edges: [0; VERTICES],
         hops: 0,
     };
     for j in 0..drawn.places[i] as usize {

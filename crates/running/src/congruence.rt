@@ -6,6 +6,7 @@ ghost use Rattle.graphs.specs.Layout.{labels_of};
 ghost use Rattle.running.specs.Keys.{field_label, RowsWithin, key_of, keys_of};
 
 use super::state::State;
+use closure::VERTICES;
 use tables::TERMS;
 
 // The digits of a key: a symbol is below the first number, and a label below the second.
@@ -13,10 +14,10 @@ const SYMBOLS: u64 = 65536;
 
 const LABELS: u64 = 512;
 
-// The arguments of a pair of terms of one symbol: the array of rows is passed by value.
+// The arguments of a pair of terms of one symbol: the array of rows is passed by value, as document 01 names the form.
 pub fn congruent(
-    rows: [[u16; 4]; 511],
-    labels: &[u16; 511],
+    rows: [[u16; 4]; VERTICES],
+    labels: &[u16; VERTICES],
     arity: usize,
     s: usize,
     t: usize,

@@ -12,7 +12,7 @@ ghost use Rattle.running.specs.Stepping.{OnRun, Outcome, Ends};
 
 use super::state::{State, Stuck};
 use super::step::edge_colour;
-use closure::EdgeKind;
+use closure::{EdgeKind, VERTICES};
 use graphs::graph::Graph;
 use graphs::labels;
 use reading::literal;
@@ -87,11 +87,11 @@ pub fn own_run(tables: &Tables, literals: &[u8]) -> Result<State, Stuck>
 {
     let mut st = State {
         terms: 0,
-        symbols: [0; 511],
-        arities: [0; 511],
-        rows: [[0; 4]; 511],
-        colours: [0; 511],
-        vertices: [false; 511],
+        symbols: [0; VERTICES],
+        arities: [0; VERTICES],
+        rows: [[0; 4]; VERTICES],
+        colours: [0; VERTICES],
+        vertices: [false; VERTICES],
         graph: Graph::empty(),
         labels: labels::own_labels(),
     };

@@ -6,7 +6,7 @@ ghost use Rattle.tables.specs.declared.Literal.{Literal};
 ghost use Rattle.closure.specs.Steps.{State as Reached, with_edge};
 ghost use Rattle.running.specs.Shown.{Shows};
 
-use closure::{Edge, EdgeKind};
+use closure::{Edge, EdgeKind, VERTICES};
 use graphs::graph::Graph;
 use graphs::labels;
 use tables::Side;
@@ -17,13 +17,13 @@ use tables::Side;
 #[derive(Clone, Copy)]
 pub struct State {
     pub terms: usize,
-    pub symbols: [u16; 511],
-    pub arities: [u8; 511],
-    pub rows: [[u16; 4]; 511],
-    pub colours: [u8; 511],
-    pub vertices: [bool; 511],
+    pub symbols: [u16; VERTICES],
+    pub arities: [u8; VERTICES],
+    pub rows: [[u16; 4]; VERTICES],
+    pub colours: [u8; VERTICES],
+    pub vertices: [bool; VERTICES],
     pub graph: Graph,
-    pub labels: [u16; 511],
+    pub labels: [u16; VERTICES],
 }
 
 // Row 8: "a middle term is needed and a parent path has no shared term".

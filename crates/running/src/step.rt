@@ -11,12 +11,12 @@ ghost use Rattle.running.specs.Shown.{padded, Shows};
 ghost use Rattle.running.specs.Stepping.{Choosing, Placing, Alike, OnRun, Apart, colouring, Outcome};
 
 use super::state::{State, Stuck};
-use closure::EdgeKind;
+use closure::{EdgeKind, VERTICES};
 use graphs::paths::Trail;
 use graphs::rooting::{self, Rooting};
 use tables::Side;
 
-// A term's colours are one number: 1 A-colourable, 2 B-colourable, 3 shared, which is both, 0 neither.
+// A term's colours are one number, as the tables have them: 1 A-colourable, 2 B-colourable, 3 shared, which is both, 0 neither.
 const SHARED: u8 = 3;
 
 // Whether a term of these colours is A-colourable.
@@ -65,8 +65,8 @@ impl State {
         ensures { (w : Choosing self.now forest.now s t) → result ≡ option_map padded (first_shared w.ts w.ls w.table w.graph w.left w.right) }
     {
         let mut trail = Trail {
-            stops: [0; 511],
-            edges: [0; 511],
+            stops: [0; VERTICES],
+            edges: [0; VERTICES],
             hops: 0,
         };
         let mut row = [0; 4];

@@ -1,4 +1,5 @@
 // Clauses as records: the premises of each, and then its conclusion, in ascending order.
+
 ghost use Rattle.std.specs.Prelude.{◌∷◌, [], ◌≡◌, ◌+◌, ◌*◌, ◌^◌, ◌≤◌, ◌<◌, length};
 ghost use Rattle.tables.specs.Words.{pair, keep, pairs_below};
 ghost use Rattle.marking.specs.Marks.{PairMarked, Covered};
@@ -7,14 +8,16 @@ ghost use Rattle.summing.specs.Written.{Blank, ReadableSome, ClausesPut};
 
 use super::premises::outer_premises;
 use super::stretches::Cut;
-use super::writing::{Kind, ROW, Records};
+use super::writing::{Kind, Records};
+use closure::VERTICES;
 use marking::drawing::Drawing;
+use marking::marks::ROW;
 
 // The pairs that clauses conclude, marked in a square, and which of its rows have one.
 #[derive(Clone, Copy)]
 pub struct Conclusions<'a> {
     pub pairs: &'a [bool],
-    pub rows: &'a [bool; 511],
+    pub rows: &'a [bool; VERTICES],
 }
 
 // One clause: the premises of the path between u and v, all of which stands before its end, and then the pair itself.
@@ -58,13 +61,14 @@ fn clauses_row(
     ensures put { ClausesPut drawn.now vertices (PairMarked pairs.now) (keep (marked pairs.now) (row_pairs vertices u)) 511 found.old (sheet_of records.old) found.new (sheet_of records.new) }
 {
     for v in u + 1..vertices {
-        if pairs[ROW * (u as usize) + v as usize] {
+        if pairs[ROW * u as usize + v as usize] {
             clause_out(drawn, vertices, u, v, found, records);
         }
     }
 }
 
-// The clauses of all marked pairs, ascending. Rows without a mark are passed over.
+// The clauses of all marked pairs, ascending. Rows without a mark are passed over. It goes over the square as `premises_out` does, which says why they
+// are two.
 pub fn clauses_out(
     drawn: &Drawing,
     vertices: u16,

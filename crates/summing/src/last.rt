@@ -1,4 +1,5 @@
 // The last clause of a disequality in A: the outer premises imply not [middle].
+
 ghost use Rattle.std.specs.Prelude.{◌∷◌, [], ◌+◌, ◌^◌, ◌≤◌, ◌<◌, length};
 ghost use Rattle.clauses.specs.Records.{conclusion_record};
 ghost use Rattle.marking.specs.Drawn.{DrawnSome};

@@ -1,4 +1,5 @@
 // The premises of a clause, marked, and written as records in ascending order.
+
 ghost use Rattle.std.specs.Prelude.{◌+◌, ◌^◌, ◌≤◌, ◌<◌, length};
 ghost use Rattle.marking.specs.Drawn.{DrawnSome};
 ghost use Rattle.summing.specs.Writing.{sheet_of, Lent};

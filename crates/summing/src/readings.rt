@@ -1,4 +1,5 @@
 // The two readings of a disequality: which equalities its clauses conclude, and their records.
+
 ghost use Rattle.std.specs.Prelude.{◌≡◌, ◌*◌, ◌≤◌, length};
 ghost use Rattle.marking.specs.Marks.{PairMarked, Covered};
 ghost use Rattle.marking.specs.Drawn.{DrawnSome};
@@ -10,6 +11,7 @@ use super::clause::{Conclusions, clauses_out};
 use super::last::last_out;
 use super::stretches::Cut;
 use super::writing::Records;
+use closure::VERTICES;
 use marking::drawing::Drawing;
 use marking::marks::{Marks, want_along, want_outer};
 use marking::settling::settle;
@@ -17,7 +19,7 @@ use tables::Side;
 
 // Marks the pairs that the clauses of a disequality conclude: what its middle stretch reaches, and what its outer ones reach without their own factors.
 // Returns which rows have such a pair.
-pub fn conclude(drawn: &Drawing, cut: &Cut<'_>, pairs: &mut [bool]) -> [bool; 511]
+pub fn conclude(drawn: &Drawing, cut: &Cut<'_>, pairs: &mut [bool]) -> [bool; VERTICES]
     requires drawn_some { DrawnSome drawn.now (length pairs.old) }
     requires in_place { InPlace (length pairs.old) cut.now }
     requires clear { Clear pairs.old }

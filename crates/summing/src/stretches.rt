@@ -1,8 +1,10 @@
 // A path cut at its middle stretch, which begins at its first and ends at its last B-colourable stop.
+
 ghost use Rattle.std.specs.Prelude.{◌≡◌, ◌≤◌, leb};
 ghost use Rattle.marking.specs.Marks.{Within};
 ghost use Rattle.summing.specs.Cutting.{FirstB, LastB, Middle};
 
+use closure::VERTICES;
 use graphs::paths::Trail;
 use tables::Side;
 
@@ -22,7 +24,7 @@ fn has_b(colours: u8) -> bool
 }
 
 // The first stop of a path that is B-colourable, or its end.
-fn first_b(colours: &[u8; 511], path: &Trail) -> usize
+fn first_b(colours: &[u8; VERTICES], path: &Trail) -> usize
     requires { Within path.now 0 path.now.hops }
     ensures { FirstB colours.now path.now result }
 {
@@ -35,7 +37,7 @@ fn first_b(colours: &[u8; 511], path: &Trail) -> usize
 }
 
 // The last stop from place lo on that is B-colourable, or lo itself.
-fn last_b(colours: &[u8; 511], path: &Trail, lo: usize) -> usize
+fn last_b(colours: &[u8; VERTICES], path: &Trail, lo: usize) -> usize
     requires within { Within path.now 0 path.now.hops }
     requires lo_le_hops { lo ≤ path.now.hops }
     ensures { LastB colours.now path.now lo result }
@@ -50,7 +52,7 @@ fn last_b(colours: &[u8; 511], path: &Trail, lo: usize) -> usize
 
 impl<'a> Cut<'a> {
     // In A the middle stretch is the one between the B-colourable stops, in B the whole path.
-    pub fn of(side: Side, colours: &[u8; 511], path: &'a Trail) -> Cut<'a>
+    pub fn of(side: Side, colours: &[u8; VERTICES], path: &'a Trail) -> Cut<'a>
         requires { Within path.now 0 path.now.hops }
         ensures { (result.path.now ≡ path.now) × Middle colours.now side result }
     {

@@ -1,12 +1,15 @@
 // The summary of a disequality: all its clauses as records.
+
 ghost use Rattle.std.specs.Prelude.{List, ℕ, ◌*◌, ◌≤◌, length};
 ghost use Rattle.summing.specs.Written.{Blank, AskingSome, Concluded, ConcludedSome, Summarised};
 
 use super::clause::Conclusions;
 use super::readings::{conclude, records_out};
 use super::stretches::Cut;
-use super::writing::{RECORD, ROW};
+use super::writing::RECORD;
+use closure::VERTICES;
 use marking::drawing::Drawing;
+use marking::marks::ROW;
 use tables::Side;
 
 // A small buffer, in which the records are counted, keeps the first 256 of them.
@@ -17,12 +20,12 @@ const FEW: u16 = 16;
 
 const MORE: u16 = 128;
 
-// A square has a row of marks for each vertex, and there are 511 vertices at most.
+// A square has a row of marks for each vertex.
 const FEW_MARKS: usize = 16 * ROW;
 
 const MORE_MARKS: usize = 128 * ROW;
 
-const ALL_MARKS: usize = 511 * ROW;
+const ALL_MARKS: usize = VERTICES * ROW;
 
 // Records that were written in a small buffer are copied, where all had room there; more are written again. So most summaries are read once.
 fn write_records(
@@ -55,7 +58,7 @@ fn write_records(
 fn write_with<const MARKS: usize>(
     drawn: &Drawing,
     vertices: u16,
-    colours: &[u8; 511],
+    colours: &[u8; VERTICES],
     side: Side,
     s: u16,
     t: u16,
@@ -81,7 +84,7 @@ fn write_with<const MARKS: usize>(
 pub fn write(
     drawn: &Drawing,
     vertices: u16,
-    colours: &[u8; 511],
+    colours: &[u8; VERTICES],
     side: Side,
     s: u16,
     t: u16,

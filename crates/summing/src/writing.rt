@@ -1,9 +1,13 @@
 // Clause records: written where they fit, counted in any case.
+
 ghost use Rattle.std.specs.Prelude.{◌∷◌, [], ◌≡◌, ◌+◌, ◌*◌, ◌^◌, ◌≤◌, ◌<◌, length};
 ghost use Rattle.tables.specs.Words.{pair};
 ghost use Rattle.clauses.specs.Records.{clause_record};
 ghost use Rattle.marking.specs.Marks.{Covered};
 ghost use Rattle.summing.specs.Writing.{kind_number, sheet, sheet_of, Lent, RecordsPut, RowOut, AllOut};
+
+use closure::VERTICES;
+use marking::marks::ROW;
 
 // "0 kind (1 premise, 2 equal, 3 different, 4 false)".
 #[derive(Clone, Copy, Debug, PartialEq, Eq)]
@@ -16,9 +20,6 @@ pub enum Kind {
 
 // How many bytes a record has.
 pub const RECORD: usize = 8;
-
-// How many marks a row of a square has.
-pub const ROW: usize = 511;
 
 // A lent buffer, and how many records were put into it: each is written where it fits, so that a run over an empty buffer counts them.
 #[derive(Drop)]
@@ -62,7 +63,7 @@ fn row_out(found: &mut [bool], u: u16, vertices: u16, records: &mut Records<'_>)
     ensures put { RowOut vertices u found.old (sheet_of records.old) found.new (sheet_of records.new) }
 {
     for v in u + 1..vertices {
-        let k = ROW * (u as usize) + v as usize;
+        let k = ROW * u as usize + v as usize;
         if found[k] {
             found[k] = false;
             records.put(Kind::Premise, u, v);
@@ -74,7 +75,7 @@ fn row_out(found: &mut [bool], u: u16, vertices: u16, records: &mut Records<'_>)
 // in the same way and takes no mark away: one function for both would take a closure that changes what it captures, of which nothing is known after.
 pub fn premises_out(
     found: &mut [bool],
-    rows: &[bool; 511],
+    rows: &[bool; VERTICES],
     vertices: u16,
     records: &mut Records<'_>,
 )
