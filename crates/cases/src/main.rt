@@ -6,10 +6,10 @@
 ghost use Rattle.std.specs.Prelude.{◌<◌, ◌≡◌, IfSome, length};
 
 use demands::Answer;
-use std::fmt::{Display, Write};
+use std::array;
+use std::fmt::{self, Display, Write};
 use std::fs::File;
 use std::io::Stdout;
-use std::{array, fmt};
 
 // The bytes of a case's name.
 const NAME: usize = 22;
@@ -124,7 +124,7 @@ impl Output {
     }
 }
 
-impl fmt::Write for Output {
+impl Write for Output {
     // No error: the flag says where a text is not written whole.
     fn write_str(&mut self, text: &str) -> fmt::Result {
         self.put(text.as_bytes());

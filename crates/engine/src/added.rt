@@ -6,9 +6,10 @@ ghost use Rattle.engine.specs.Ending.{record_bytes, records_bytes};
 
 use super::bytes;
 use running::state::State;
+use tables::TERM_BYTES;
 
 // "Term record, 16 bytes": the symbol, the arity, the arguments, and zeros.
-fn term_record(symbol: u16, arity: u8, args: [u16; 4]) -> [u8; 16]
+fn term_record(symbol: u16, arity: u8, args: [u16; 4]) -> [u8; TERM_BYTES]
     ensures { result ≡ record_bytes symbol arity args }
 {
     let f = bytes::word(symbol);
@@ -29,6 +30,6 @@ pub fn write_added(end: &State, given: usize, added: &mut [u8])
     for i in 0..end.terms - given {
         let v = given + i;
         let record = term_record(end.symbols[v], end.arities[v], end.rows[v]);
-        bytes::put(&record, 16 * i, added);
+        bytes::put(&record, TERM_BYTES * i, added);
     }
 }

@@ -9,14 +9,15 @@ ghost use Rattle.engine.specs.Refusals.{answer_of};
 
 use super::refusal::{Buffer, Refusal};
 use super::{added, classes, summaries};
+use closure::VERTICES;
 use demands::Answer;
 use running::state::State;
-use tables::Tables;
+use tables::{TERM_BYTES, Tables};
 
 // No disequality has its sides joined: the partition, where it has room.
 pub fn consistent(
     tables: &Tables,
-    labels: &[u16; 511],
+    labels: &[u16; VERTICES],
     partition: &mut [u8],
 ) -> Result<Answer, Refusal>
     requires { tables.now.terms ≤ 256 }
@@ -42,7 +43,7 @@ pub fn inconsistent(
     ensures { (w : Decides tables.now end.now d) → w.ends.from.literals ≡ literals.now → (partition : List ℕ) → record { numbers = numbers_of (answer_of result); buffers = record { partition = partition; added = added.new; clauses = clauses.new } } ≡ inconsistent_by (record { partition = partition; added = added.old; clauses = clauses.old }) d (map term_bytes w.ends.state.added) (records_for w) }
 {
     let count = end.terms - tables.terms;
-    if added.len() < 16 * count {
+    if added.len() < TERM_BYTES * count {
         return Err(Refusal::Short(Buffer::Added));
     }
     let room = clauses.len() / 8;

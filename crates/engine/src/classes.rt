@@ -5,10 +5,12 @@ ghost use Rattle.demands.specs.Buffers.{written_over};
 ghost use Rattle.engine.specs.Ending.{class_by, class_bytes};
 
 use super::bytes;
+use closure::VERTICES;
 use demands::IDLE;
+use tables::TERMS;
 
 // "the lowest number of a given term in its class; a term not in use gets 65535"
-pub fn class_number(used: &[bool; 256], labels: &[u16; 511], n: usize, t: usize) -> u16
+fn class_number(used: &[bool; TERMS], labels: &[u16; VERTICES], n: usize, t: usize) -> u16
     requires { (n ≤ 256) × (t < n) }
     ensures { result ≡ class_by used.now labels.now n t }
 {
@@ -20,7 +22,12 @@ pub fn class_number(used: &[bool; 256], labels: &[u16; 511], n: usize, t: usize)
 }
 
 // "the partition buffer's first 2n bytes hold, for each of the n terms" its class number; the bytes past them stay.
-pub fn write_partition(used: &[bool; 256], labels: &[u16; 511], n: usize, partition: &mut [u8])
+pub fn write_partition(
+    used: &[bool; TERMS],
+    labels: &[u16; VERTICES],
+    n: usize,
+    partition: &mut [u8],
+)
     requires { (n ≤ 256) × (2 * n ≤ length partition.old) }
     ensures { partition.new ≡ written_over (class_bytes used.now labels.now n) partition.old }
 {

@@ -6,18 +6,18 @@ ghost use Rattle.marking.specs.Drawn.{Drawn};
 ghost use Rattle.tables.specs.declared.Tables.{Tables as Read};
 ghost use Rattle.engine.specs.Ending.{Ends, terms_in, literals_in, EndsIn, PlacesOf, ParentsOf};
 
+use closure::{EDGES, VERTICES};
 use graphs::rooting;
-use marking::drawing::Drawing;
-use marking::edges;
-use marking::edges::Columns;
+use marking::drawing::{Drawing, PARENTS};
+use marking::edges::{self, Columns};
 use running::state::State;
 
 // How many parent paths each edge has: a derived one as many as its ends have arguments, any other none.
-fn places(edges: &Columns, arities: &[u8; 511], count: usize) -> [u8; 510]
+fn places(edges: &Columns, arities: &[u8; VERTICES], count: usize) -> [u8; EDGES]
     requires { (count ≤ 510) × EndsIn edges.now.lefts count }
     ensures { PlacesOf edges.now.lefts edges.now.derived arities.now count result }
 {
-    let mut places = [0; 510];
+    let mut places = [0; EDGES];
     for i in 0..count {
         places[i] = if edges.derived[i] {
             arities[edges.lefts[i] as usize]
@@ -29,7 +29,12 @@ fn places(edges: &Columns, arities: &[u8; 511], count: usize) -> [u8; 510]
 }
 
 // Where the parent paths of each edge begin and end: the arguments of its left end, four places, and those of its right end.
-fn lay_parents(rows: &[[u16; 4]; 511], edges: &Columns, count: usize, parents: &mut [u16; 4080])
+fn lay_parents(
+    rows: &[[u16; 4]; VERTICES],
+    edges: &Columns,
+    count: usize,
+    parents: &mut [u16; PARENTS],
+)
     requires { (count ≤ 510) × EndsIn edges.now.lefts count × EndsIn edges.now.rights count }
     ensures { ParentsOf rows.now edges.now.lefts edges.now.rights count parents.new }
 {
@@ -55,7 +60,7 @@ pub fn drawn(end: &State) -> Drawing
         forest: rooting::rooted(&end.graph, &end.labels),
         inb: columns.inb,
         places: places(&columns, &end.arities, count),
-        parents: [0; 4080],
+        parents: [0; PARENTS],
         count,
     };
     lay_parents(&end.rows, &columns, count, &mut drawing.parents);

@@ -5,11 +5,12 @@ ghost use Rattle.tables.specs.Words.{first_below};
 ghost use Rattle.tables.specs.LiteralTable.{literal_count};
 ghost use Rattle.engine.specs.Ending.{SidesLabelled, met_by};
 
+use closure::VERTICES;
 use reading::literal;
-use tables::Kind;
+use tables::{Kind, LITERAL_BYTES};
 
 // Whether literal record i is a disequality whose sides are joined: they have one label.
-fn met(literals: &[u8], labels: &[u16; 511], i: usize) -> bool
+fn met(literals: &[u8], labels: &[u16; VERTICES], i: usize) -> bool
     requires { (i < literal_count literals.now) × SidesLabelled literals.now }
     ensures { result ≡ met_by literals.now labels.now i }
 {
@@ -18,9 +19,9 @@ fn met(literals: &[u8], labels: &[u16; 511], i: usize) -> bool
 }
 
 // "the lowest record of kind 2 whose sides are joined when no step is left".
-pub fn critical(literals: &[u8], labels: &[u16; 511]) -> Option<usize>
+pub fn critical(literals: &[u8], labels: &[u16; VERTICES]) -> Option<usize>
     requires { SidesLabelled literals.now }
     ensures { result ≡ first_below (met_by literals.now labels.now) (literal_count literals.now) }
 {
-    (0..literals.len() / 8).find(|&i| met(literals, labels, i))
+    (0..literals.len() / LITERAL_BYTES).find(|&i| met(literals, labels, i))
 }

@@ -39,7 +39,8 @@ pub fn fill<R: Read>(from: &mut R, buffer: &mut [u8]) -> Option<usize>
     Some(done)
 }
 
-// Reads as much of a file as the buffer holds. One that cannot be opened and one that cannot be read are alike: a folder can be opened.
+// Reads as much of a file as the buffer holds. One that cannot be opened and one that cannot be read are alike: a folder can be opened. The name is
+// bytes, for a &str would ask more of callers.
 pub fn load<F: Files>(files: &F, name: &[u8], buffer: &mut [u8]) -> Option<usize>
     ensures { Within (length buffer.new) result }
 {

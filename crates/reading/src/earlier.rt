@@ -43,6 +43,11 @@ fn digit(r: &[u8], at: usize) -> u64
     bytes::word_at(r, at) as u64
 }
 
+// The digits of a key: a symbol is below the first number, and in a table that rows 2 and 3 refuse nothing of an argument is below the second.
+const SYMBOLS: u64 = 65536;
+
+const NUMBERS: u64 = 256;
+
 // A number that equal records have in common. Nothing rests on other records having another; they have, once rows 3 and 4 refuse nothing.
 fn record_key(r: &[u8]) -> u64
     requires { length r.now ≡ 16 }
@@ -53,7 +58,7 @@ fn record_key(r: &[u8]) -> u64
     let second = digit(r, 6);
     let third = digit(r, 8);
     let fourth = digit(r, 10);
-    symbol + 65536 * (first + 256 * (second + 256 * (third + 256 * fourth)))
+    symbol + SYMBOLS * (first + NUMBERS * (second + NUMBERS * (third + NUMBERS * fourth)))
 }
 
 // The key of each record.

@@ -9,7 +9,7 @@ ghost use Rattle.tables.specs.Tests.{not_one_or_two, breaks_literal};
 use super::bytes;
 use tables::LITERAL_BYTES;
 
-// "side or kind not 1 or 2".
+// "side or kind not 1 or 2". A byte and no enum, for row 6 speaks of any byte.
 #[tactic(auto, unfolding(tables::specs::Tests::not_one_or_two))]
 fn not_one_or_two(b: u8) -> bool
     ensures { result ≡ not_one_or_two b }

@@ -50,7 +50,8 @@ pub enum Refusal {
 
 // The tables that no row refuses, as they were read. Past the count the arrays hold 0. The literals stay in their bytes, where each
 // layer reads them. The columns stay columns, no records of a term: functions are lent one column alone, loops without an early end
-// run over one, so that the machine compares many entries at a time, and `sound_tables` promises each.
+// run over one, so that the machine compares many entries at a time, and `sound_tables` promises each. Colours are one number, as `sound_tables` has
+// them (`colour_number`).
 #[derive(Clone, Copy, Debug, PartialEq, Eq)]
 pub struct Tables {
     pub terms: usize,
