@@ -9,15 +9,15 @@ use Rattle.engine.specs.declared.refusal.Refusal.{Refusal}
 use Rattle.engine.specs.declared.refusal.Refusal.TheVariants.{Table, Short, Stuck}
 
 -- "0 partition, 1 added terms, 2 clauses"
-abbrev pub place_of : Buffer → ℕ
-place_of Partition = 0
-place_of Added = 1
-place_of Clauses = 2
+abbrev pub buffer_place : Buffer → ℕ
+buffer_place Partition = 0
+buffer_place Added = 1
+buffer_place Clauses = 2
 
 -- row 7 is a buffer that is too short, row 8 a run that is stuck
 abbrev pub refused_as : Refusal → Answer
 refused_as (Table row) = Refused (number_of row) (place_in row)
-refused_as (Short buffer) = Refused 7 (place_of buffer)
+refused_as (Short buffer) = Refused 7 (buffer_place buffer)
 refused_as Stuck = Refused 8 0
 
 -- a call that may be refused, as an answer

@@ -1,7 +1,7 @@
 // Why a call is refused: the rows of "What comes back".
 
 ghost use Rattle.std.specs.Prelude.{◌≡◌};
-ghost use Rattle.engine.specs.Refusals.{place_of, refused_as};
+ghost use Rattle.engine.specs.Refusals.{buffer_place, refused_as};
 ghost use Rattle.engine.specs.declared.refusal.Refusal.TheVariants.{Table, Stuck as NoSharedTerm};
 
 use demands::Answer;
@@ -18,7 +18,7 @@ pub enum Buffer {
 impl Buffer {
     // "0 partition, 1 added terms, 2 clauses"
     fn place(self) -> usize
-        ensures { result ≡ place_of self }
+        ensures { result ≡ buffer_place self }
     {
         match self {
             Buffer::Partition => 0,
