@@ -35,6 +35,9 @@ const ADDED: usize = 255 * TERM;
 // The same for clauses: 6,144 records of 8 bytes.
 const CLAUSES: usize = 6144 * 8;
 
+// The hex digits.
+const DIGITS: [u8; 16] = *b"0123456789abcdef";
+
 // How many cases are run at most: the loop over them has to end also in a run whose data never end.
 const CASES: usize = 65536;
 
@@ -96,12 +99,19 @@ impl Output {
         let _ = write!(self, "{text}");
     }
 
+    // Prints a byte as two hex digits, in one piece: a format would write a leading zero apart.
+    fn hex(&mut self, byte: u8) {
+        let high = DIGITS[usize::from(byte >> 4)];
+        let low = DIGITS[usize::from(byte & 15)];
+        self.put(&[high, low]);
+    }
+
     // Prints the bytes of as many records as a count asks for, in hex; then tells the buffer's name if a byte behind them is no longer the pattern.
     // A byte's record is found by a division, so that no product needs a bound.
     fn bytes_of(&mut self, lent: Lent, bytes: &[u8], count: usize) {
         for (i, &byte) in bytes.iter().enumerate() {
             if i / lent.each() < count {
-                self.print(format_args!("{byte:02x}"));
+                self.hex(byte);
             } else if byte != lent.pattern() {
                 self.print(" changed ");
                 self.print(lent.name());
