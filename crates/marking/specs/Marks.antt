@@ -116,9 +116,16 @@ pub record FactorsAdded (inb : List Bool) (trail : Trail) (lo hi : ℕ) (b : Boo
 abbrev pub EdgesAdded : List Bool → Trail → ℕ → ℕ → Bool → List Bool → List Bool → Type 0
 EdgesAdded inb trail lo hi b marks marks' = (π : Path) → Trailed inb trail hi lo π → (k : ℕ) → Marked marks' k ↔ (Marked marks k ⊎ EdgeOf b π k)
 
+-- marks for each vertex and each edge, as the code's arrays have them
+pub record InOrder (marks : Marks) : Type 0 where
+  pub rows_sized : length marks.rows ≡ 511
+  pub inside_sized : length marks.inside ≡ 510
+  pub under_sized : length marks.under ≡ 510
+
 -- what a stretch asks for is marked too
 pub record Wanted (inb : List Bool) (trail : Trail) (lo hi : ℕ) (b whole : Bool) (pairs : List Bool) (marks : Marks) (pairs' : List Bool) (marks' : Marks) : Type 0 where
   pub same : length pairs' ≡ length pairs
+  pub in_order : InOrder marks'
   pub cover : Covered pairs marks.rows → Covered pairs' marks'.rows
   pub wants : (π : Path) → Trailed inb trail hi lo π → Wants b whole π pairs marks pairs' marks'
 
