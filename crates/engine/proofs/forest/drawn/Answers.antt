@@ -16,12 +16,13 @@ rooted-requires c = can_root (on_run c.requires.1)
 pub places-requires : goal.places-requires
 places-requires c =
     let w = c.requires.1 in
-    ((can_root (on_run w)).0, (ends_in w _ (columns_drawn _ _ c.columns_of-columns.ensures)).0)
+    let e = ends_in w _ (columns_drawn _ _ c.columns_of-columns.ensures) in
+    ((can_root (on_run w)).0, search (e.0, e.1))
 
 pub lay_parents-requires : goal.lay_parents-requires
 lay_parents-requires c = let w = c.requires.1 in
     let e = ends_in w _ (columns_drawn _ _ c.columns_of-columns.ensures) in
-    ((can_root (on_run w)).0, e.0, e.1)
+    ((can_root (on_run w)).0, search (e.0, e.1), search (e.0, e.1))
 
 pub returns : goal.returns
 returns c t w = drawn_of w _ _ c.rooted.ensures refl refl (columns_drawn _ _ c.columns_of-columns.ensures) c.places.ensures c.lay_parents.ensures
