@@ -1,5 +1,5 @@
 -- What the turns along a stretch keep: what was marked and what the stretch asks for is what is marked and what the rest of it asks for.
-use mathlib.Core.Bool.{Bool, true}
+use mathlib.Core.Bool.{Bool, true, false, true≢false}
 use mathlib.Core.List.Memᴰ
 use mathlib.Core.List.{List, ◌∷◌, Memᴰ}
 use mathlib.Core.Logic.{◌⊎◌, inl, inr, ⊎_elim, ◌↔◌}
@@ -16,6 +16,10 @@ use Rattle.marking.specs.Marks.{is_b, EndOf, EdgeOf, PairWithin, PairMarked, Mar
 use Rattle.marking.proofs.Squares.{marked_more}
 use Rattle.clauses.proofs.Pieces.{no_factor}
 use Rattle.marking.proofs.Trails.{in_b_at, trailed_forward, first_factor}
+
+-- a flag is not both
+flags_differ : {b : Bool} → b ≡ false → b ≡ true → ⊥
+flags_differ e f = true≢false (sym f ∙ e)
 
 -- one hop of a trail read
 abbrev Next : List Bool → Trail → ℕ → ℕ → Path → Type 0
@@ -114,3 +118,17 @@ module _ (inb : List Bool) (trail : Trail) (lo hi : ℕ) (b : Bool) where
   -- all of them
   pub edges_all : (marks₀ marks : List Bool) (i : ℕ) → hi ≤ i → EdgesUpTo marks₀ i marks → EdgesAdded inb trail lo hi b marks₀ marks
   edges_all marks₀ marks i h u = λ π t k. let y = u.reads π t in (λ x. (y.2 k).1 (inl x), λ x. ⊎_elim (λ z. z) (λ z. absurd (no_edge k h y.1 z)) ((y.2 k).0 x))
+
+  -- the A-edges are marked where clauses are read
+  pub record UnderDone (under under' : List Bool) : Type 0 where
+    pub sized : length under' ≡ 510
+    pub followed : (π : Path) → Trailed inb trail hi lo π → (k : ℕ) → Marked under' k ↔ (Marked under k ⊎ ((b ≡ false) × EdgeOf b π k))
+
+  -- where clauses are read, the A-edges are marked
+  pub under_count : (under under' : List Bool) → b ≡ false → length under' ≡ 510 → EdgesAdded inb trail lo hi false under under' → UnderDone under under'
+  under_count under under' e s f =
+      record { sized = s; followed = λ π t k. let y = f π t k in (λ x. ⊎_elim inl (λ z. inr (e, subst (λ (c : Bool). EdgeOf c π k) (sym e) z)) (y.0 x), λ x. y.1 (⊎_elim inl (λ z. inr (subst (λ (c : Bool). EdgeOf c π k) e z.1)) x)) }
+
+  -- where premises are read, nothing is
+  pub under_left : (under : List Bool) → b ≡ true → length under ≡ 510 → UnderDone under under
+  under_left under e s = record { sized = s; followed = λ π t k. (inl, λ x. ⊎_elim (λ z. z) (λ z. absurd (flags_differ (z.0) e)) x) }

@@ -23,6 +23,9 @@ use Rattle.closure.specs.Graph.{Graph, joined}
 use Rattle.closure.specs.declared.EdgeKind.TheVariants.{Basic as basic}
 use Rattle.closure.specs.Steps.{State, begin, with_edge}
 use Rattle.closure.specs.OwnRun.{basic_steps}
+use Rattle.reading.specs.Fields.{fields_of}
+use Rattle.reading.specs.declared.literal.Fields.{Fields}
+use Rattle.reading.proofs.Sides.{sides_below}
 use Rattle.running.specs.Shown.{Shows}
 use Rattle.running.specs.declared.state.State.{State as Arrays}
 use Rattle.closure.proofs.Walking.Invariant.{Forest}
@@ -112,6 +115,11 @@ module _ (bs ls : List ℕ) (passed : checked bs ls ≡ Sound) where
     -- and so fit the label array
     pub sides_small : {l : Literal} → l ≡ literal_of (literal_record ls k) → (l.left < 256) × (l.right < 256)
     sides_small read = let low = sides_in read in (omega (arith, low.0, settled.terms_fit), omega (arith, low.1, settled.terms_fit))
+
+    -- and so do those that its fields say
+    pub sides_read : {l : Fields} → l ≡ fields_of (literal_record ls k) → (l.left < 256) × (l.right < 256)
+    unfolding literal_of
+    sides_read read = let small = sides_small refl in sides_below ls k 256 read small.0 small.1
 
   -- ---- the turns
 

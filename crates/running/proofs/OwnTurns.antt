@@ -2,7 +2,7 @@
 use Rattle.std.proofs.Common.{Option, Some, None, Result}
 use mathlib.Core.List.{List, []}
 use mathlib.Core.Logic.{◌⊎◌, inl, inr, ⊎_elim}
-use mathlib.Core.Path.{◌≡◌, sym, ap, subst, ◌∙◌}
+use mathlib.Core.Path.{◌≡◌, refl, sym, ap, subst, ◌∙◌}
 use Prim.Native.Nat.{ℕ, zero, suc, ◌+◌, ◌-◌, ◌≤◌, ◌<◌}
 use native.Mathlib.Omega.{arith}
 use lib.Dec.{T}
@@ -84,6 +84,19 @@ pub record TurnsLeft {first : Arrays} (run : OnRun first) (given : ℕ) (a : Arr
   pub going : Run run.ts run.ls steps reached
   pub left : turns_at (first_pair run.ts run.ls) (derived_on run.ts run.ls) given run.reached ≡ turns_at (first_pair run.ts run.ls) (derived_on run.ts run.ls) (given - taken) reached
 
+-- what the search hands out: the first pair of the state, which can be derived, of terms whose numbers fit
+pub record Found {first : Arrays} (run : OnRun first) (reached : State) (s t : ℕ) : Type 0 where
+  pub is_first : first_pair run.ts run.ls reached ≡ Some (pair s t)
+  pub can_derive : T (derivable run.ts run.ls reached (pair s t))
+  pub left_fits : s < 256
+  pub right_fits : t < 256
+
+pub found_pair : {first : Arrays} (run : OnRun first) {given : ℕ} {a : Arrays} {taken : ℕ} (w : TurnsLeft run given a taken) {handed : Option Pair} {s t : ℕ} → handed ≡ first_pair run.ts run.ls w.reached → handed ≡ Some (pair s t) → Found run w.reached s t
+found_pair run w {s = s} {t = t} e is =
+    let first : first_pair run.ts run.ls w.reached ≡ Some (pair s t) = sym e ∙ is in
+    let found = found_derivable run.ts run.ls w.reached (pair s t) first in
+    record { is_first = first; can_derive = found.0; left_fits = omega (arith, found.1, run.checked.few); right_fits = omega (arith, found.2, run.checked.few) }
+
 module _ {first : Arrays} (run : OnRun first) {given : ℕ} (given-is : given ≡ length run.ts) where
   -- the given terms
   abbrev ts : List Term
@@ -132,18 +145,21 @@ module _ {first : Arrays} (run : OnRun first) {given : ℕ} (given-is : given �
           shown_end (turn_is ∙ turns_none (first_pair ts ls) (derived_on ts ls) (given - (taken + 1)) w.reached (sym (h ts ls w.reached w.shows given-is run.checked.one_arity)))
 
       module _ {s t : ℕ} (h : (ts : List Term) (ls : List Literal) (reached : State) → Shows ts ls reached a → given ≡ length ts → OneArity ts → Some (pair s t) ≡ first_pair ts ls reached) where
-        -- what the search hands out is the first pair of the state
+        -- what the search hands out
+        found : Found run w.reached s t
+        found = found_pair run w (h ts ls w.reached w.shows given-is run.checked.one_arity) refl
+
+        -- is the first pair of the state
         is_first : first_pair ts ls w.reached ≡ Some (pair s t)
-        is_first = sym (h ts ls w.reached w.shows given-is run.checked.one_arity)
+        is_first = found.is_first
 
         -- which can be derived
         pub can_derive : T (derivable ts ls w.reached (pair s t))
-        can_derive = (found_derivable ts ls w.reached (pair s t) is_first).0
+        can_derive = found.can_derive
 
         -- of terms whose numbers fit
         pub pair_fits : (s < 256) × (t < 256)
-        pair_fits = let found = found_derivable ts ls w.reached (pair s t) is_first in
-            (omega (arith, found.1, run.checked.few), omega (arith, found.2, run.checked.few))
+        pair_fits = (found.left_fits, found.right_fits)
 
         -- row 8
         pub turn_stuck : derived_on ts ls w.reached (pair s t) ≡ None → end ≡ None
