@@ -45,9 +45,7 @@ part_length bytes done = simp (length-take, length-drop) (omega arith)
 
 -- bytes that were written: at least one, and no more than there was room for
 pub some_written : (part : List ℕ) (n left done : ℕ) (called : Result ℕ Error) → WritesAtMost called part → On n ≡ next_of called left done → (0 < n) × (n ≤ length part)
-some_written part n left done called h e =
-    let t = follows called left done (On n) e in
-    (t.1, subst (λ r. WritesAtMost r part) t.0 h)
+some_written part n left done called h e = some (length part) n called left done h e
 
 -- bytes that were read, likewise
 pub some_read : (part : List ℕ) (n left done : ℕ) (called : Result ℕ Error) → ReadsAtMost called part → On n ≡ next_of called left done → (0 < n) × (n ≤ length part)

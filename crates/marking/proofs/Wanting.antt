@@ -17,10 +17,6 @@ use Rattle.marking.proofs.Squares.{marked_more}
 use Rattle.clauses.proofs.Pieces.{no_factor}
 use Rattle.marking.proofs.Trails.{in_b_at, trailed_forward, first_factor}
 
--- a flag is not both
-flags_differ : {b : Bool} → b ≡ false → b ≡ true → ⊥
-flags_differ e f = true≢false (sym f ∙ e)
-
 -- one hop of a trail read
 abbrev Next : List Bool → Trail → ℕ → ℕ → Path → Type 0
 Next inb trail hi lo π = (h : Hop) × (ρ : Path) × (π ≡ h ∷ ρ) × (get_or trail.edges lo 0 ≡ length h.older) × (in_b_at inb trail lo ≡ is_b h.colour) × Trailed inb trail hi (suc lo) ρ
@@ -131,4 +127,4 @@ module _ (inb : List Bool) (trail : Trail) (lo hi : ℕ) (b : Bool) where
 
   -- where premises are read, nothing is
   pub under_left : (under : List Bool) → b ≡ true → length under ≡ 510 → UnderDone under under
-  under_left under e s = record { sized = s; followed = λ π t k. (inl, λ x. ⊎_elim (λ z. z) (λ z. absurd (flags_differ (z.0) e)) x) }
+  under_left under e s = record { sized = s; followed = λ π t k. (inl, λ x. ⊎_elim (λ z. z) (λ z. absurd (true≢false (sym e ∙ z.0))) x) }

@@ -31,7 +31,7 @@ fn settle_edge(
 }
 
 // From the newest edge to the oldest, where an edge has parent paths and a mark asks for them: what they ask for, until all that is owed is marked. One
-// trail serves all edges, for clearing one costs more than an edge's paths.
+// trail serves all edges, so that it is cleared once.
 pub fn settle(drawn: &Drawing, b: bool, pairs: &mut [bool], marks: &mut Marks)
     requires { DrawnSome drawn.now (length pairs.old) }
     ensures { Settled drawn.now b pairs.old marks.old pairs.new marks.new }

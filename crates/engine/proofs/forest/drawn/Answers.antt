@@ -13,16 +13,18 @@ columns_of-columns-requires c =
 pub rooted-requires : goal.rooted-requires
 rooted-requires c = can_root (on_run c.requires.1)
 
+-- Both ends of an edge are terms, so either column meets what `places` and `lay_parents` ask: an edit that exchanges the columns is refused where it makes
+-- something false, and not here.
 pub places-requires : goal.places-requires
 places-requires c =
     let w = c.requires.1 in
     let e = ends_in w _ (columns_drawn _ _ c.columns_of-columns.ensures) in
-    ((can_root (on_run w)).0, search (e.0, e.1))
+    ((can_root (on_run w)).0, search e)
 
 pub lay_parents-requires : goal.lay_parents-requires
 lay_parents-requires c = let w = c.requires.1 in
     let e = ends_in w _ (columns_drawn _ _ c.columns_of-columns.ensures) in
-    ((can_root (on_run w)).0, search (e.0, e.1), search (e.0, e.1))
+    ((can_root (on_run w)).0, search e, search e)
 
 pub returns : goal.returns
 returns c t w = drawn_of w _ _ c.rooted.ensures refl refl (columns_drawn _ _ c.columns_of-columns.ensures) c.places.ensures c.lay_parents.ensures
